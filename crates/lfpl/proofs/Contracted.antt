@@ -1,13 +1,13 @@
 -- Copies of variables are contracted, one after the other: what is derived with copies y : T y of variables ρ y is derived without them, each y replaced by ρ y.
-use mathlib.Core.Bool.{Bool, true, false, cond, not, _&&_, _||_, false≢true}
+use mathlib.Core.Bool.{Bool, true, false, cond, _&&_, _||_, false≢true}
 use mathlib.Core.List.{List, [], _∷_}
 use mathlib.Core.Logic.{inl, inr}
-use mathlib.Core.Option.{Option, none, some}
+use mathlib.Core.Option.{none, some}
 use mathlib.Core.Path.{_≡_, refl, sym, ap, _∙_, subst, fun-ext}
 use Prim.Native.Nat.{ℕ, zero, suc, _<_}
 use native.Mathlib.Nat.{not-suc-le-zero}
 use native.Mathlib.Omega.{arith}
-use Rattle.std.proofs.shelf.Tests.{and-parts, or-cases, or-left, or-right}
+use Rattle.std.proofs.shelf.Tests.{and-parts, and-from, or-cases, or-left, or-right, cases-lt}
 use Rattle.lfpl.specs.Syntax.{Ty, heapFree, Term, rename, Fun}
 use Rattle.lfpl.specs.Hofmann.{Name, named, sameName, replace, Context, with, Free, Derives, Contr}
 use Rattle.lfpl.proofs.Renamed.{rename-twice, rename-same}
@@ -120,13 +120,12 @@ grid (suc v) m = row v m (grid v m)
 module _ (copy : Name → Bool) where
   in-row : (m v i : ℕ) (zs : List Name) → i < m → copy (named v i) ≡ true → among copy (row v m zs) (named v i) ≡ true
   in-row zero v i zs h p = absurd (not-suc-le-zero h)
-  in-row (suc m) v i zs h p = elim (native.Mathlib.Decide.ℕ-discrete i m) [
-    | yes e ↦ or-left _ _ (subst (λ (j : ℕ). (sameName (named v i) (named v j) && copy (named v j)) ≡ true) e (rw (same-self (named v i), p) refl))
-    | no e ↦ or-right _ _ (in-row m v i zs (below e) p)
+  in-row (suc m) v i zs h p = elim (cases-lt i m) [
+    | inl l ↦ or-right _ _ (in-row m v i zs l p)
+    | inr l ↦
+        let e : i ≡ m = omega arith in
+        or-left _ _ (subst (λ (j : ℕ). (sameName (named v i) (named v j) && copy (named v j)) ≡ true) e (and-from _ _ (same-self (named v i)) p))
   ]
-    where
-      below : (i ≡ m → ⊥) → i < m
-      below ne = elim (native.Mathlib.Decide.decLt i m) [ yes l ↦ l | no l ↦ absurd (ne (omega arith)) ]
 
   past-row : (m v : ℕ) (zs : List Name) (z : Name) → among copy zs z ≡ true → among copy (row v m zs) z ≡ true
   past-row zero v zs z p = p
@@ -134,13 +133,10 @@ module _ (copy : Name → Bool) where
 
   in-grid : (n m v i : ℕ) → v < n → i < m → copy (named v i) ≡ true → among copy (grid n m) (named v i) ≡ true
   in-grid zero m v i l h p = absurd (not-suc-le-zero l)
-  in-grid (suc n) m v i l h p = elim (native.Mathlib.Decide.ℕ-discrete v n) [
-    | yes e ↦ subst (λ (w : ℕ). among copy (row w m (grid n m)) (named v i) ≡ true) e (in-row m v i (grid n m) h p)
-    | no e ↦ past-row m n (grid n m) (named v i) (in-grid n m v i (below e) h p)
+  in-grid (suc n) m v i l h p = elim (cases-lt v n) [
+    | inl q ↦ past-row m n (grid n m) (named v i) (in-grid n m v i q h p)
+    | inr q ↦ let e : v ≡ n = omega arith in subst (λ (w : ℕ). among copy (row w m (grid n m)) (named v i) ≡ true) e (in-row m v i (grid n m) h p)
   ]
-    where
-      below : (v ≡ n → ⊥) → v < n
-      below ne = elim (native.Mathlib.Decide.decLt v n) [ yes q ↦ q | no q ↦ absurd (ne (omega arith)) ]
 
   grid-copies : (n m : ℕ) → ((v i : ℕ) → copy (named v i) ≡ true → (v < n) × (i < m)) → (z : Name) → among copy (grid n m) z ≡ copy z
   grid-copies n m within (named v i) = case (copy (named v i))

@@ -13,14 +13,13 @@ use Rattle.std.proofs.shelf.Lists.{getD-append-left, getD-append-right}
 use Rattle.std.proofs.shelf.Tests.{and-parts, and-from, and-left, and-right, or-from, or-left, or-right, cases-lt, ltb-true, lt-ltb, le-ltb, leb-true, le-leb, eq-eqb, ne-eqb}
 use Rattle.lfpl.specs.Syntax.{Ty, int, heapFree, Head, isVar, Expr, Exprs, expr, end, _then_, Term, Terms, renameHead, rename, renames, names, namesAny, Fun}
 use Rattle.lfpl.specs.Typing.{rule, typeAt}
-use Rattle.lfpl.specs.Judge.{count, partsNaming}
-use Rattle.lfpl.specs.Hofmann.{Name, named, plain, Context, Parted, nowhere, here, there, Union, extended, Derives, Derive, Zero, One, More, Binding, Derivable}
+use Rattle.lfpl.specs.Hofmann.{Name, named, plain, Context, Parted, nowhere, here, there, extended, Derives, Derive, Zero, One, More, Binding, Derivable}
 use Rattle.lfpl.proofs.Typed.{Typ, TypAll, TypArms}
 use Rattle.lfpl.proofs.Renamed.{expr-by, then-by, head-twice, rename-twice, renames-twice}
 use Rattle.lfpl.proofs.Sharing.{uses, Once, positive-count, names-used, unshared-once}
 use Rattle.lfpl.proofs.Names.{case, numberOf, look-old, look-new}
-use Rattle.lfpl.proofs.Contracted.{added, merge, Copies, contract}
-use Rattle.lfpl.proofs.Ruled.{Limbs, Limb, Stump, Choice, Chosen, Premises, by-rule}
+use Rattle.lfpl.proofs.Contracted.{added, merge, contract}
+use Rattle.lfpl.proofs.Ruled.{Limbs, Limb, Stump, Choice, Chosen, by-rule}
 
 -- each variable under the copy that c numbers
 abbrev primed : (ℕ → ℕ) → ℕ → Name
@@ -43,7 +42,8 @@ either-way : {X : Type 0} (b : Bool) (x y z : X) → x ≡ z → y ≡ z → con
 either-way true x y z p q = p
 either-way false x y z p q = q
 
--- The context Θ has, over variables of the types Ξ, the copy c of each variable that is heap-free or in the set s. It has no copies beyond N, and no variables that are bound later.
+-- The context Θ has, over variables of the types Ξ, the copy c of each variable that is heap-free or in the set s. It has no copies beyond N, and no variables
+-- that are bound later.
 record Ready (Ξ : List Ty) (N : ℕ) (c : ℕ → ℕ) (Θ : Context) (s : ℕ → Bool) : Type 0 where
   low : (v : ℕ) → c v ≤ N
   bare : (v : ℕ) → length Ξ ≤ v → c v ≡ 0
@@ -141,7 +141,8 @@ module _ (Ξ : List Ty) (N : ℕ) (c : ℕ → ℕ) where
       let stays = λ (v : ℕ). back (howMany ps) 0 v (omega arith) in
       expr-by (head-twice _ _ _ stays h) (fan-back (howMany ps) ps (omega arith)) (renames-twice _ _ _ stays qs)
 
-  gather : (Σ : List Fun) (Θ : Context) (e : Expr) {s : ℕ → Bool} → Ready Ξ N c Θ s → (m : ℕ) (t : Term Name) → rename (merge (isCopy m) original) t ≡ rename (primed c) e → (B : Ty)
+  gather : (Σ : List Fun) (Θ : Context) (e : Expr) {s : ℕ → Bool} → Ready Ξ N c Θ s → (m : ℕ) (t : Term Name)
+      → rename (merge (isCopy m) original) t ≡ rename (primed c) e → (B : Ty)
       → Derives Σ (length Ξ) (spread m Θ) t B → Derives Σ (length Ξ) Θ (rename (primed c) e) B
   gather Σ Θ e r m t eq B d =
       subst (λ (u : Term Name). Derives Σ (length Ξ) Θ u B) eq
@@ -178,7 +179,8 @@ module _ (Ξ : List Ty) (N : ℕ) (c : ℕ → ℕ) where
   at-copy m Θ z b p = ap (λ (x : Bool). cond x (some (typeOf z)) (Θ z)) p
 
   -- the context with all copies has what all parts want
-  supplied : (Θ : Context) (h : Head) (ps qs : Exprs) → Once Ξ ps qs → Ready Ξ N c Θ (λ v. names v (expr h ps qs)) → Supplied (N + howMany ps) (spread (howMany ps) Θ) ps qs
+  supplied : (Θ : Context) (h : Head) (ps qs : Exprs) → Once Ξ ps qs → Ready Ξ N c Θ (λ v. names v (expr h ps qs))
+      → Supplied (N + howMany ps) (spread (howMany ps) Θ) ps qs
   supplied Θ h ps qs o r = record {
     low = r .low;
     bare = r .bare;
@@ -271,7 +273,8 @@ module _ (Σ : List Fun) where
   no-arms (q then qs) Ξ B θ a = absurd a
 
   mutual
-    derives : (e : Expr) (Ξ : List Ty) (A : Ty) → Typ Σ e Ξ A → (N : ℕ) (c : ℕ → ℕ) (Θ : Context) → Ready Ξ N c Θ (λ v. names v e) → Derives Σ (length Ξ) Θ (rename (primed c) e) A
+    derives : (e : Expr) (Ξ : List Ty) (A : Ty) → Typ Σ e Ξ A → (N : ℕ) (c : ℕ → ℕ) (Θ : Context) → Ready Ξ N c Θ (λ v. names v e)
+        → Derives Σ (length Ξ) Θ (rename (primed c) e) A
     derives (expr h ps qs) Ξ A (As, B, t, f, a, w, s) N c Θ r =
         let Θ′ = spread Ξ N c (howMany ps) Θ in
         let u = supplied Ξ N c Θ h ps qs (unshared-once Ξ ps qs s) r in

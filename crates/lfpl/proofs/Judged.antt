@@ -1,16 +1,16 @@
--- The judgement finds a type exactly where the typing relation has one. Soundness is a predicate on verdicts that holds of every fault; completeness walks the steps of the judgement.
-use Prim.Native.Nat.{ℕ, zero, suc, _+_, _<_}
+-- The judgement finds a type exactly where the typing relation has one. One way, a predicate that holds of every fault is carried through the steps of the
+-- judgement; the other way, each step is shown to pass.
+use Prim.Native.Nat.{ℕ, zero, suc, _+_}
 use native.Mathlib.Nat.{le-of-suc-le-suc, not-suc-le-zero}
 use native.Mathlib.Omega.{arith}
 use mathlib.Core.List.{List, [], _∷_, _++_}
 use mathlib.Core.Bool.{Bool, true, false, _&&_, _||_, not}
-use mathlib.Core.Path.{_≡_, refl, sym, _∙_, ap, subst, subst⁻¹}
-use lib.ListN.{length}
+use mathlib.Core.Path.{_≡_, refl, _∙_, ap, subst, subst⁻¹}
 use Rattle.std.proofs.shelf.Tests.{and-parts, and-from, or-right, not-true}
 use Rattle.codec.specs.declared.fault.Refusal.{Refusal}
 use Rattle.codec.specs.declared.fault.Refusal.the-variants.{TypeFault, Sharing}
-use Rattle.lfpl.specs.Syntax.{Ty, int, first, second, sameTy, Head, var, call, const, apply, guard, mkPair, casePair, mkLeft, mkRight, caseSum, mkNil, mkCons, caseList, mkLeaf, mkNode, caseTree, Expr, Exprs, expr, end, _then_, size, sizes, Fun, Program}
-use Rattle.lfpl.specs.Typing.{rule, fits, Rule, funAt, opened, early, alike, typeAt}
+use Rattle.lfpl.specs.Syntax.{Ty, int, sameTy, Head, var, call, const, apply, guard, mkPair, casePair, mkLeft, mkRight, caseSum, mkNil, mkCons, caseList, mkLeaf, mkNode, caseTree, Expr, Exprs, expr, end, _then_, size, sizes, Fun}
+use Rattle.lfpl.specs.Typing.{rule, fits, opened, early, alike, typeAt}
 use Rattle.lfpl.specs.Judge.{_>>=_, Verdict, fine, faulty, demand, judge, judgeAll, judgeArms, judgeBodies, judgeProgram, shares}
 use Rattle.lfpl.proofs.SameTypes.{same-eq, same-refl}
 use Rattle.lfpl.proofs.Typed.{Typ, TypAll, TypArms, Bodies, Judge-law, Program-law}

@@ -1,13 +1,14 @@
 -- Names and contexts: which names are the same, and what an extended context has.
-use mathlib.Core.Bool.{Bool, true, false, cond, _&&_, false≢true}
+use mathlib.Core.Bool.{Bool, true, false, cond}
 use mathlib.Core.List.{List, [], _∷_}
-use mathlib.Core.Option.{Option, none, some}
-use mathlib.Core.Path.{_≡_, refl, sym, ap, ap₂, _∙_}
-use Prim.Native.Nat.{ℕ, zero, suc, _+_, _-_, _<_, _≤_}
+use mathlib.Core.Logic.{inl, inr}
+use mathlib.Core.Option.{none, some}
+use mathlib.Core.Path.{_≡_, refl, ap, ap₂, _∙_}
+use Prim.Native.Nat.{ℕ, suc, _+_, _-_, _<_, _≤_}
 use native.Mathlib.Omega.{arith}
 use lib.Dec.{eqb}
 use lib.ListN.{length}
-use Rattle.std.proofs.shelf.Tests.{and-parts, and-from, eqb-true, eq-eqb}
+use Rattle.std.proofs.shelf.Tests.{and-parts, and-from, cases-lt, eqb-true, eq-eqb}
 use Rattle.lfpl.specs.Syntax.{Ty}
 use Rattle.lfpl.specs.Typing.{typeAt}
 use Rattle.lfpl.specs.Hofmann.{Name, named, sameName, plain, Context, with, extended}
@@ -66,12 +67,12 @@ look-old (B ∷ Bs) n Γ v i ne =
 
 pub look-new : (Bs : List Ty) (n : ℕ) (Γ : Context) (v : ℕ) → n ≤ v → v < n + length Bs → extended n Γ Bs (plain v) ≡ some (typeAt Bs (v - n))
 look-new [] n Γ v l h = absurd (omega arith)
-look-new (B ∷ Bs) n Γ v l h = elim (native.Mathlib.Decide.ℕ-discrete v n) [
-  | yes e ↦ look-old Bs (suc n) (with Γ (plain n) B) v 0 (λ a b z. absurd (omega arith))
-      ∙ rw (and-from (eqb v n) (eqb 0 0) (eq-eqb v n e) (eq-eqb 0 0 refl)) refl ∙ ap (λ (i : ℕ). some (typeAt (B ∷ Bs) i)) (let z : 0 ≡ v - n = omega arith in z)
-  | no e ↦ look-new Bs (suc n) (with Γ (plain n) B) v (above e) (omega arith)
-      ∙ ap (λ (i : ℕ). some (typeAt (B ∷ Bs) i)) (let g = above e in let z : suc (v - suc n) ≡ v - n = omega arith in z)
+look-new (B ∷ Bs) n Γ v l h = elim (cases-lt n v) [
+  | inl g ↦
+      let e : suc (v - suc n) ≡ v - n = omega arith in
+      look-new Bs (suc n) (with Γ (plain n) B) v g (omega arith) ∙ ap (λ (i : ℕ). some (typeAt (B ∷ Bs) i)) e
+  | inr g ↦
+      let e : 0 ≡ v - n = omega arith in
+      look-old Bs (suc n) (with Γ (plain n) B) v 0 (λ a b z. absurd (omega arith))
+      ∙ rw (and-from (eqb v n) (eqb 0 0) (eq-eqb v n (omega arith)) (eq-eqb 0 0 refl)) refl ∙ ap (λ (i : ℕ). some (typeAt (B ∷ Bs) i)) e
 ]
-  where
-    above : (v ≡ n → ⊥) → suc n ≤ v
-    above ne = elim (native.Mathlib.Decide.decLt n v) [ yes g ↦ g | no g ↦ absurd (ne (omega arith)) ]

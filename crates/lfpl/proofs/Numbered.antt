@@ -1,24 +1,24 @@
 -- What Hofmann's rules derive has a type by the table of rules. Every name is given a number, a copy that of its original; names of types that are not heap-free are
 -- their own numbers. Contexts that are apart then share numbers of heap-free types only.
-use mathlib.Core.Bool.{Bool, true, false, cond, _&&_, _||_, false≢true}
+use mathlib.Core.Bool.{Bool, true, false, cond, _&&_, false≢true}
 use mathlib.Core.List.{List, [], _∷_, _++_}
 use mathlib.Core.Logic.{inl, inr}
 use mathlib.Core.Option.{Option, none, some}
 use mathlib.Core.Path.{_≡_, refl, sym, ap, _∙_, subst}
-use Prim.Native.Nat.{ℕ, zero, suc, _+_, _-_, _<_, _≤_}
+use Prim.Native.Nat.{ℕ, _+_, _-_, _<_, _≤_}
 use native.Mathlib.Omega.{arith}
 use lib.Dec.{eqb}
 use lib.ListN.{length, length-append}
 use Rattle.std.proofs.shelf.Lists.{getD-append-left, getD-append-right}
 use Rattle.std.proofs.shelf.Tests.{and-from, or-cases, cases-lt, lt-ltb, eqb-true}
-use Rattle.lfpl.specs.Syntax.{Ty, int, diamond, listOf, treeOf, pairOf, sumOf, heapFree, sameTy, Head, isVar, var, call, const, apply, guard, mkPair, casePair, mkLeft, mkRight, caseSum, mkNil, mkCons, caseList, mkLeaf, mkNode, caseTree, Term, Terms, Expr, Exprs, expr, end, _then_, rename, renames, names, namesAny, Fun}
-use Rattle.lfpl.specs.Typing.{rule, fits, Rule, typeAt, funAt, sameTys}
+use Rattle.lfpl.specs.Syntax.{Ty, int, diamond, listOf, treeOf, pairOf, sumOf, heapFree, sameTy, Head, isVar, call, const, apply, guard, mkPair, casePair, mkLeft, mkRight, caseSum, mkNil, mkCons, caseList, mkLeaf, mkNode, caseTree, Term, Terms, Expr, Exprs, expr, end, _then_, rename, renames, names, namesAny, Fun}
+use Rattle.lfpl.specs.Typing.{rule, fits, typeAt, funAt, sameTys}
 use Rattle.lfpl.specs.Judge.{count, partsNaming}
-use Rattle.lfpl.specs.Hofmann.{Name, named, sameName, plain, replace, Context, Parted, nowhere, here, there, Union, with, extended, Free, Derives, Var, Sig, Contr, Const, Infix-op, If, Pair, Split, Inl, Inr, Sum-Elim, Nil, Cons, List-Elim, Leaf, Node, Tree-Elim, Derive, Zero, One, More, Under, Binding, Derivable}
+use Rattle.lfpl.specs.Hofmann.{Name, sameName, plain, Context, Parted, nowhere, here, there, Union, with, extended, Free, Derives, Var, Sig, Contr, Const, Infix-op, If, Pair, Split, Inl, Inr, Sum-Elim, Nil, Cons, List-Elim, Leaf, Node, Tree-Elim, Derive, Zero, One, More, Under, Binding, Derivable}
 use Rattle.lfpl.proofs.SameTypes.{same-refl, sames-refl}
 use Rattle.lfpl.proofs.Typed.{Typ, TypAll, TypArms}
 use Rattle.lfpl.proofs.Renamed.{rename-twice, rename-same}
-use Rattle.lfpl.proofs.Sharing.{uses, count-positive, positive-count, count-small, uses-named, once-unshared}
+use Rattle.lfpl.proofs.Sharing.{uses, count-positive, count-small, uses-named, once-unshared}
 use Rattle.lfpl.proofs.Names.{no-some, some-inj, numberOf, same-inv, same-self, Found, old, new, found}
 
 in-left : {o o₁ o₂ : Option Ty} → Parted o o₁ o₂ → (A : Ty) → o₁ ≡ some A → o ≡ some A
@@ -40,7 +40,7 @@ not-both (there C) A B p q = no-some p
 abbrev Met : (Name → ℕ) → Context → ℕ → Type 0
 Met φ Γ v = (x : Name) × (A : Ty) × (Γ x ≡ some A) × (φ x ≡ v)
 
--- a name of Γ,x:A,y:A, where y has the number of x
+-- the numbers where y has that of x
 abbrev redirect : (Name → ℕ) → Name → Name → Name → ℕ
 redirect φ x y z = φ (cond (sameName z y) x z)
 
@@ -66,22 +66,20 @@ module _ (Ξ : List Ty) (φ : Name → ℕ) where
   used-test : {Γ : Context} (s : ℕ → Bool) → ((v : ℕ) → v < length Ξ → s v ≡ true → Met φ Γ v) → Used Ξ φ Γ (λ v. count (s v))
   used-test s f = record { met = λ v l p. f v l (count-positive (s v) p); once = λ v l p. count-small (s v) }
 
+  numbers-fewer : {Θ Γ : Context} → ((x : Name) (A : Ty) → Γ x ≡ some A → Θ x ≡ some A) → Numbers Ξ φ Θ → Numbers Ξ φ Γ
+  numbers-fewer g f = record {
+    within = λ x A p. f .within x A (g x A p);
+    has = λ x A p. f .has x A (g x A p);
+    heavy = λ x A p. f .heavy x A (g x A p);
+    later = f .later;
+  }
+
   module _ {Θ Γ Δ : Context} (j : Union Θ Γ Δ) (f : Numbers Ξ φ Θ) where
     left : Numbers Ξ φ Γ
-    left = record {
-      within = λ x A p. f .within x A (in-left (j x) A p);
-      has = λ x A p. f .has x A (in-left (j x) A p);
-      heavy = λ x A p. f .heavy x A (in-left (j x) A p);
-      later = f .later;
-    }
+    left = numbers-fewer (λ x A p. in-left (j x) A p) f
 
     right : Numbers Ξ φ Δ
-    right = record {
-      within = λ x A p. f .within x A (in-right (j x) A p);
-      has = λ x A p. f .has x A (in-right (j x) A p);
-      heavy = λ x A p. f .heavy x A (in-right (j x) A p);
-      later = f .later;
-    }
+    right = numbers-fewer (λ x A p. in-right (j x) A p) f
 
     -- a number met in both is heap-free
     apart : (v : ℕ) → heapFree (typeAt Ξ v) ≡ false → Met φ Γ v → Met φ Δ v → ⊥
@@ -246,7 +244,8 @@ module _ (Σ : List Fun) where
   fit T As = and-from _ _ (same-refl T) (sames-refl As)
 
   mutual
-    whole : {n : ℕ} {Γ : Context} {t : Term Name} {B : Ty} → Derives Σ n Γ t B → (Ξ : List Ty) → length Ξ ≡ n → (φ : Name → ℕ) → Numbers Ξ φ Γ → Whole Ξ φ Γ (rename φ t) B
+    whole : {n : ℕ} {Γ : Context} {t : Term Name} {B : Ty} → Derives Σ n Γ t B → (Ξ : List Ty) → length Ξ ≡ n → (φ : Name → ℕ) → Numbers Ξ φ Γ
+        → Whole Ξ φ Γ (rename φ t) B
     whole (Var x A p) Ξ k φ f = record {
       typ = ([], int, tt, and-from _ _ (lt-ltb (φ x) (length Ξ) (f .within x A p)) refl, tt, f .has x A p, once-unshared Ξ end end (λ v l h. omega arith));
       met = λ v l n. elim (or-cases (eqb v (φ x)) false n) [ inl q ↦ (x, A, p, sym (eqb-true v (φ x) q)) | inr q ↦ absurd (false≢true q) ];
@@ -298,12 +297,14 @@ module _ (Σ : List Fun) where
         choosing Ξ φ j f caseTree (treeOf A) C (λ v. refl) (fit (treeOf A) (treeOf A ∷ [])) (whole d Ξ k φ (left Ξ φ j f))
         (next-arm Ξ φ (arm u₁ Ξ k φ g) (next-arm Ξ φ (arm u₂ Ξ k φ g) (no-arms Ξ φ)))
 
-    parts : {n : ℕ} {Γ : Context} {ts : Terms Name} {As : List Ty} → Derive Σ n Γ ts As → (Ξ : List Ty) → length Ξ ≡ n → (φ : Name → ℕ) → Numbers Ξ φ Γ → Parts Ξ φ Γ (renames φ ts) As
+    parts : {n : ℕ} {Γ : Context} {ts : Terms Name} {As : List Ty} → Derive Σ n Γ ts As → (Ξ : List Ty) → length Ξ ≡ n → (φ : Name → ℕ) → Numbers Ξ φ Γ
+        → Parts Ξ φ Γ (renames φ ts) As
     parts Zero Ξ k φ f = no-parts Ξ φ
     parts (One e A d) Ξ k φ f = one-part Ξ φ (whole d Ξ k φ f)
     parts (More e e₂ es A A₂ As j d ds) Ξ k φ f = next-part Ξ φ j f (whole d Ξ k φ (left Ξ φ j f)) (parts ds Ξ k φ (right Ξ φ j f))
 
-    arm : {n : ℕ} {Γ : Context} {Bs : List Ty} {t : Term Name} {C : Ty} → Under Σ n Γ Bs t C → (Ξ : List Ty) → length Ξ ≡ n → (φ : Name → ℕ) → Numbers Ξ φ Γ → Arm Ξ φ Γ Bs (rename φ t) C
+    arm : {n : ℕ} {Γ : Context} {Bs : List Ty} {t : Term Name} {C : Ty} → Under Σ n Γ Bs t C → (Ξ : List Ty) → length Ξ ≡ n → (φ : Name → ℕ) → Numbers Ξ φ Γ
+        → Arm Ξ φ Γ Bs (rename φ t) C
     arm {n} {Γ} (Binding Bs e A fresh d) Ξ k φ f =
         let m = length-append Ξ Bs in
         let w = whole d (Ξ ++ Bs) (omega arith) φ (numbers-arm Ξ Bs φ n Γ k f) in

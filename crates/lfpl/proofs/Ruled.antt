@@ -1,5 +1,5 @@
 -- The table of rules applies Hofmann's rules: where the parts fit a head's rule and are derived in contexts that are apart, the expression is derived.
-use mathlib.Core.Bool.{Bool, true, false, _&&_}
+use mathlib.Core.Bool.{Bool, true, _&&_}
 use mathlib.Core.List.{List, [], _∷_}
 use mathlib.Core.Option.{some}
 use mathlib.Core.Path.{_≡_, refl, sym, subst}
@@ -9,7 +9,7 @@ use lib.IntN.{ℤ}
 use lib.ListN.{length}
 use Rattle.std.proofs.shelf.Tests.{and-parts, ltb-true, eq-eqb}
 use Rattle.lfpl.specs.Syntax.{Ty, int, diamond, listOf, treeOf, pairOf, sumOf, first, second, sameTy, HeadOf, Infix, Head, isVar, var, call, const, apply, guard, mkPair, casePair, mkLeft, mkRight, caseSum, mkNil, mkCons, caseList, mkLeaf, mkNode, caseTree, Term, Terms, expr, end, _then_, renameHead, Fun}
-use Rattle.lfpl.specs.Typing.{rule, fits, Rule, typeAt, funAt, opened, sameTys}
+use Rattle.lfpl.specs.Typing.{rule, fits, typeAt, funAt, opened, sameTys}
 use Rattle.lfpl.specs.Hofmann.{Name, Context, Union, Derives, Var, Sig, Const, Infix-op, If, Pair, Split, Inl, Inr, Sum-Elim, Nil, Cons, List-Elim, Leaf, Node, Tree-Elim, Derive, Zero, One, More, Under, Binding}
 use Rattle.lfpl.proofs.SameTypes.{same-eq, sames-eq}
 

@@ -1,6 +1,6 @@
 -- The tests that compare types answer true exactly at equal types.
 use mathlib.Core.List.{List, [], _∷_}
-use mathlib.Core.Bool.{Bool, true, false, _&&_, false≢true}
+use mathlib.Core.Bool.{true, false, false≢true}
 use mathlib.Core.Path.{_≡_, refl, ap₂}
 use Rattle.std.proofs.shelf.Tests.{and-parts, and-from}
 use Rattle.lfpl.specs.Syntax.{Ty, decided, sameTy, Ty-discrete}

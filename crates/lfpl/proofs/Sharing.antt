@@ -1,10 +1,11 @@
--- An expression shares nothing exactly if each variable that is not heap-free is used at most once, where the uses of a variable are the parts that name it, all arms together being one part.
+-- An expression shares nothing exactly if each variable that is not heap-free is used at most once, where the uses of a variable are the parts that name it, all
+-- arms together being one part.
 use Prim.Native.Nat.{ℕ, zero, suc, _+_, _<_, _≤_}
 use native.Mathlib.Nat.{not-suc-le-zero}
 use native.Mathlib.Omega.{arith}
 use mathlib.Core.List.{List, [], _∷_}
 use mathlib.Core.Bool.{Bool, true, false, _&&_, _||_, not, false≢true}
-use mathlib.Core.Path.{_≡_, refl, sym, subst}
+use mathlib.Core.Path.{_≡_, refl, subst}
 use mathlib.Core.Logic.{inl, inr}
 use lib.Dec.{leb}
 use lib.ListN.{length}

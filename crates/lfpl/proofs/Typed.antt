@@ -1,5 +1,5 @@
--- The typing of expressions as a relation on the table of rules: each expression has a type, and none shares. The judgement finds exactly this (Judged), and so do
--- Hofmann's rules (Split, Numbered).
+-- The typing of expressions as a relation on the table of rules: each expression has a type, and none shares. The judgement finds exactly these types (Judged),
+-- and Hofmann's rules derive exactly these (Numbered, Copied).
 use Prim.Native.Nat.{ℕ, _<_}
 use mathlib.Core.List.{List, [], _∷_, _++_}
 use mathlib.Core.Bool.{true, false}
@@ -7,7 +7,7 @@ use mathlib.Core.Path.{_≡_}
 use mathlib.Core.Logic.{_↔_}
 use lib.ListN.{length}
 use Rattle.lfpl.specs.Syntax.{Ty, Head, Expr, Exprs, expr, end, _then_, Fun, Program}
-use Rattle.lfpl.specs.Typing.{rule, fits, Rule, funAt}
+use Rattle.lfpl.specs.Typing.{rule, fits, funAt}
 use Rattle.lfpl.specs.Judge.{shares, judge, judgeProgram, fine}
 
 module _ (fs : List Fun) where
