@@ -1,48 +1,38 @@
--- Worked examples of tables: what the rules answer for each, as one list of tests.
-use Prim.Native.Nat.{ℕ, zero, suc, _+_}
+-- Worked examples of tables, with what the rules answer for each.
+use Prim.Native.Nat.{ℕ, zero, suc}
 use mathlib.Core.List.{List, [], _∷_, _++_}
-use mathlib.Core.Bool.{Bool, true, false, _&&_}
-use lib.Dec.{eqb}
 use lib.ListN.{length}
 use Rattle.std.specs.declared.result.Result.{Result}
 use Rattle.std.specs.declared.result.Result.the-variants.{Ok, Err}
 use Rattle.codec.specs.Faults.{numberOf}
 use Rattle.codec.specs.declared.fault.Fault.{Fault}
 use Rattle.codec.specs.declared.fault.Part as P
-use Rattle.codec.specs.declared.fault.Part.the-variants as Part
+use Rattle.codec.specs.declared.fault.Part.the-variants.{Table, Judgement}
 use Rattle.lfpl.specs.Syntax.{Program}
-use Rattle.lfpl.specs.Admission.{admission}
 
--- the parts by a digit each
-abbrev pub partOf : P.Part → ℕ
-partOf Part.Table = 1
-partOf Part.Value = 2
-partOf Part.Judgement = 3
-partOf Part.Programmer = 4
+-- what a table's bytes come to: admitted with so many functions, or refused by number, place and part
+pub data Outcome : Type 0 where
+  admitted : (functions : ℕ) → Outcome
+  refused : (number place : ℕ) → P.Part → Outcome
 
--- an answer: the count of functions, or the refusal's number, place and part
-abbrev pub outcome : Result Program Fault → ℕ × ℕ × ℕ × ℕ
-outcome (Ok p) = (0, length (p .functions), 0, 0)
-outcome (Err f) = (1, numberOf (f .refusal), f .place, partOf (f .part))
+abbrev pub outcome : Result Program Fault → Outcome
+outcome (Ok p) = admitted (length (p .functions))
+outcome (Err f) = refused (numberOf (f .refusal)) (f .place) (f .part)
 
-abbrev pub same : ℕ × ℕ × ℕ × ℕ → ℕ × ℕ × ℕ × ℕ → Bool
-same (a, b, c, d) (a′, b′, c′, d′) = eqb a a′ && (eqb b b′ && (eqb c c′ && eqb d d′))
+-- bytes, and what they come to
+abbrev pub Example : Type 0
+Example = List ℕ × Outcome
 
--- the table is admitted with so many functions
-abbrev pub adopted : ℕ → List ℕ → Bool
-adopted n bs = same (outcome (admission bs)) (0, n, 0, 0)
+abbrev pub adopted : ℕ → List ℕ → Example
+adopted n bs = (bs, admitted n)
 
--- the reading of the table is refused, by number and place
-abbrev pub unread : ℕ → ℕ → List ℕ → Bool
-unread number place bs = same (outcome (admission bs)) (1, number, place, 1)
+-- the reading is refused, by number and place
+abbrev pub unread : ℕ → ℕ → List ℕ → Example
+unread number place bs = (bs, refused number place Table)
 
--- the judgement of the table finds a fault, by number and expression
-abbrev pub unfit : ℕ → ℕ → List ℕ → Bool
-unfit number place bs = same (outcome (admission bs)) (1, number, place, 3)
-
-abbrev pub all : List Bool → Bool
-all [] = true
-all (b ∷ bs) = b && all bs
+-- the judgement finds a fault, by number and expression
+abbrev pub unfit : ℕ → ℕ → List ℕ → Example
+unfit number place bs = (bs, refused number place Judgement)
 
 -- reverse: a helper that moves a list onto another, and the function that calls it with the empty list
 abbrev pub reverse : List ℕ
@@ -70,7 +60,7 @@ ofNothing body = 1 ∷ 0 ∷ 1 ∷ 0 ∷ 0 ∷ body
 abbrev pub ofLists : List ℕ → List ℕ → List ℕ
 ofLists first second = (2 ∷ 0 ∷ 2 ∷ 0 ∷ 2 ∷ 1 ∷ 1 ∷ 0 ∷ 1 ∷ 1 ∷ 0 ∷ first) ++ second
 
-abbrev pub examples : List Bool
+abbrev pub examples : List Example
 examples =
     -- the bytes end within a number; a number's fifth byte is 16; a table of no types
     unread 1 1 (1 ∷ 128 ∷ []) ∷

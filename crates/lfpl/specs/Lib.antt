@@ -1,5 +1,6 @@
 pub mod Syntax
 pub mod Typing
+pub mod Values
 pub mod Judge
 pub mod Hofmann
 pub mod Reading

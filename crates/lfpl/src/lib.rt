@@ -1,7 +1,4 @@
 // The language as mathematics. Nothing runs here: the contracts state what is proved of the definitions in specs/.
-ghost use mathlib.Core.Bool.{true};
-ghost use mathlib.Core.Path.{_≡_};
-ghost use Rattle.lfpl.specs.Examples.{all, examples};
 ghost use Rattle.lfpl.specs.Laws.{Judgement-is-Hofmanns, Programs-are-Hofmanns, Shapes-are-the-rules, Sum-of-one};
 
 // The judgement and Hofmann's typing rules agree.
@@ -16,13 +13,6 @@ pub fn judgement_is_hofmanns() -> u8
 // How an expression is read agrees with how it is judged.
 pub fn shapes_are_the_rules() -> u8
     ensures { λ _. ⌜ Shapes-are-the-rules ⌝ }
-{
-    0
-}
-
-// The worked examples of tables hold of the rules themselves.
-pub fn examples_hold() -> u8
-    ensures { λ _. ⌜ all examples ≡ true ⌝ }
 {
     0
 }

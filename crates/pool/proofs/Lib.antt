@@ -1,0 +1,3 @@
+pub mod Laws
+mod InWords
+mod Joined

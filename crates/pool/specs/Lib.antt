@@ -1,0 +1,4 @@
+pub mod Pools
+pub mod Words
+pub mod Sides
+pub mod Lawfulness
