@@ -1,0 +1,9 @@
+pub mod Bodied
+pub mod Coding
+pub mod Masks
+pub mod Noting
+pub mod Passing
+pub mod Ruling
+pub mod Scoping
+pub mod Standing
+pub mod Verdicts

@@ -1,0 +1,5 @@
+pub mod expressions;
+pub mod listing;
+pub mod read;
+pub mod signatures;
+pub mod types;
