@@ -1,135 +1,82 @@
-ghost use Prim.Native.Nat.{ℕ, _+_, _-_, _*_, _<_, _≤_, _^_};
+//! A whole script: what it sets up, and its calls up to the first mistake.
+
+ghost use mathlib.Core.Bool.{cond};
 ghost use mathlib.Core.Path.{_≡_};
-ghost use Rattle.std.specs.Options.{okOr};
-ghost use Rattle.console.specs.Decimal.{numberOf, withFigure};
-use std::alloc::AllocError;
+ghost use Rattle.std.specs.declared.result.Result.the-variants.{Err, Ok};
+use crate::line::Asked;
+use crate::line::Line;
+use crate::line::Mistake;
+use crate::line::MistakeFromRefused;
+use crate::line::PoolChoice;
+use crate::line::understood;
 use std::alloc::Global;
-use std::alloc::Refused;
-use std::fmt;
 
-// which pool the programmer is made over; WORDS is the length of a block, in words
-#[derive(Clone, Copy)]
-pub enum PoolChoice {
-    Own,
-    Block { words: u32 },
-    Pair { words: u32 },
-    Reserve { most: u32 },
-    ReserveBlock { most: u32, words: u32 },
-}
-
-// a line of a script, as it is understood
+/// What a script says so far.
 #[derive(Drop)]
-pub enum Line {
-    // a blank line, or a comment
-    Nothing,
-    Pool(PoolChoice),
-    BoxNumber(u32),
-    Adopt(Vec<u8>),
+pub struct Script {
+    pub pool: PoolChoice,
+    pub box_number: u32,
+    pub calls: Vec<Asked>,
+    // whether a call was asked for: the pool and the box are set before that
+    pub begun: bool,
+    // the first line that stops the program, and why
+    pub mistake: Option<(u64, Mistake)>,
 }
 
-// why a line stops the program
-#[derive(Clone, Copy)]
-pub enum Mistake {
-    NotACall,
-    NotYet,
-    NotANumber,
-    OverAByte,
-    TooLate,
-    NoMemory,
-}
-
-pub impl From<AllocError> for Mistake as MistakeFromAlloc {
-    fn from(_e: AllocError) -> Self {
-        Mistake::NoMemory
-    }
-}
-
-pub impl<T: Drop> From<Refused<T>> for Mistake as MistakeFromRefused {
-    fn from(_e: Refused<T>) -> Self {
-        Mistake::NoMemory
-    }
-}
-
-pub impl fmt::Display for Mistake as MistakeDisplay {
-    fn fmt<W: fmt::Write>(&self, f: &mut fmt::Formatter<W>) -> fmt::Result {
-        let words = match *self {
-            Mistake::NotACall => "not a call",
-            Mistake::NotYet => "not a call yet",
-            Mistake::NotANumber => "a decimal number of 32 bits is wanted",
-            Mistake::OverAByte => "a byte is at most 255",
-            Mistake::TooLate => "the pool and the box are set before the first call",
-            Mistake::NoMemory => "out of memory",
-        };
-        f.write_str(words)
-    }
-}
-
-// A number with one figure more behind it: none where the character is no figure, or 32 bits do not hold it.
-fn appended(n: u32, figure: u8) -> Option<u32>
-    ensures { λ r. ⌜ r ≡ withFigure n figure ⌝ }
-{
-    if figure < b'0' || figure > b'9' {
-        return None;
-    }
-    let grown = 10 * n as u64 + (figure - b'0') as u64;
-    if grown > u32::MAX as u64 { None } else { Some(grown as u32) }
-}
-
-// The number that decimal figures spell: none where there is no figure, a character is none, or 32 bits do not hold it.
-pub fn decimal(figures: &[u8]) -> Option<u32>
-    ensures { λ r. ⌜ r ≡ numberOf (now (figures .entry)) ⌝ }
-{
-    if figures.is_empty() {
-        return None;
-    }
-    let mut n = 0;
-    for figure in figures {
-        n = appended(n, *figure)?;
-    }
-    Some(n)
-}
-
-// A word as a number.
-fn number(word: &str) -> Result<u32, Mistake>
-    ensures { λ r. ⌜ r ≡ okOr (numberOf (now (word .entry))) Mistake.NotANumber ⌝ }
-{
-    decimal(word.as_bytes()).ok_or(Mistake::NotANumber)
-}
-
-// The words as bytes.
-fn bytes(heap: Global, words: &[&str]) -> Result<Vec<u8>, Mistake> {
-    let mut all = Vec::new(heap);
-    for word in words {
-        match u8::try_from(number(word)?) {
-            Ok(byte) => all.push(byte)?,
-            Err(_) => return Err(Mistake::OverAByte),
+impl Script {
+    /// Nothing is said yet: the own pool and the box 0.
+    pub fn new(heap: Global) -> Self {
+        Script {
+            pool: PoolChoice::Own,
+            box_number: 0,
+            calls: Vec::new(heap),
+            begun: false,
+            mistake: None,
         }
     }
-    Ok(all)
-}
 
-// The pool that the words after `pool` choose.
-fn pool(words: &[&str]) -> Result<PoolChoice, Mistake> {
-    match words {
-        ["own"] => Ok(PoolChoice::Own),
-        ["block", words] => Ok(PoolChoice::Block { words: number(words)? }),
-        ["pair", words] => Ok(PoolChoice::Pair { words: number(words)? }),
-        ["reserve", most] => Ok(PoolChoice::Reserve { most: number(most)? }),
-        ["reserve-block", most, words] => Ok(PoolChoice::ReserveBlock { most: number(most)?, words: number(words)? }),
-        _ => Err(Mistake::NotACall),
+    // Whether a set-up line may still come.
+    fn set_up(&self) -> Result<(), Mistake>
+        ensures { λ r. ⌜ r ≡ cond (now (self .entry) .begun) (Err Mistake.TooLate) (Ok tt) ⌝ }
+    {
+        if self.begun {
+            Err(Mistake::TooLate)
+        } else {
+            Ok(())
+        }
+    }
+
+    /// Takes one line more.
+    pub fn add(&mut self, heap: Global, text: &str) -> Result<(), Mistake> {
+        match understood(heap, text)? {
+            Line::Nothing => {}
+            Line::Pool(choice) => {
+                self.set_up()?;
+                self.pool = choice;
+            }
+            Line::BoxNumber(n) => {
+                self.set_up()?;
+                self.box_number = n;
+            }
+            Line::Call(asked) => {
+                self.begun = true;
+                self.calls.push(asked)?;
+            }
+        }
+        Ok(())
     }
 }
 
-// What a line asks for.
-pub fn understood(heap: Global, text: &str) -> Result<Line, Mistake> {
-    let words: Vec<&str> = text.split_whitespace().collect(heap)?;
-    match words.as_slice() {
-        [] => Ok(Line::Nothing),
-        ["pool", choice @ ..] => Ok(Line::Pool(pool(choice)?)),
-        ["box", n] => Ok(Line::BoxNumber(number(n)?)),
-        ["adopt", rest @ ..] => Ok(Line::Adopt(bytes(heap, rest)?)),
-        [first, ..] if first.starts_with("#") => Ok(Line::Nothing),
-        ["put" | "show" | "spare" | "empty" | "start" | "carry" | "collect" | "abandon" | "discard", ..] => Err(Mistake::NotYet),
-        _ => Err(Mistake::NotACall),
+/// The script that a text holds, up to its first mistake.
+pub fn read_script(heap: Global, text: &str) -> Script {
+    let mut script = Script::new(heap);
+    let mut number = 0u64;
+    for line in text.lines() {
+        number = number.saturating_add(1);
+        if let Err(mistake) = script.add(heap, line) {
+            script.mistake = Some((number, mistake));
+            break;
+        }
     }
+    script
 }

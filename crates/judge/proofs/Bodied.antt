@@ -2,7 +2,6 @@
 use Prim.Native.Nat.{ℕ, zero, suc, _+_, _-_, _≤_, _<_}
 use native.Mathlib.Nat.{le-of-suc-le-suc, not-suc-le-zero}
 use native.Mathlib.Omega.{arith}
-use mathlib.Core.Bool.{Bool, true, false}
 use mathlib.Core.List.{List, [], _∷_, map}
 use mathlib.Core.Logic.{_⊎_, inl, inr}
 use mathlib.Core.Path.{_≡_, refl, sym, ap, _∙_, subst}
@@ -11,9 +10,8 @@ use Rattle.std.proofs.shelf.Lists.{getD-set-same, getD-set-other, getD-take, dr
 use Rattle.std.proofs.shelf.Tests.{cases-lt}
 use Rattle.std.specs.declared.result.Result.{Result}
 use Rattle.std.specs.declared.result.Result.the-variants.{Ok, Err}
-use Rattle.codec.specs.Reading.{done, refused}
+use Rattle.codec.specs.Reading.{done}
 use Rattle.codec.specs.declared.fault.Fault.{Fault}
-use Rattle.codec.specs.declared.fault.Part.the-variants as Part
 use Rattle.codec.specs.declared.fault.Refusal.{Refusal}
 use Rattle.lfpl.specs.Admission.{judged, admitted, admission}
 use Rattle.lfpl.specs.Judge.{Verdict, fine, faulty, _>>=_, judge, judgeBodies, judgeProgram}
@@ -25,10 +23,10 @@ use Rattle.tables.specs.Read.{Reads}
 use Rattle.tables.specs.declared.listing.Listing.{Listing}
 use Rattle.tables.specs.declared.listing.Node.{Node}
 use Rattle.tables.specs.declared.listing.Signature.{Signature}
-use Rattle.judge.specs.Admitting.{startOf, Bodies, Carries, Admits, PosesBody, judgeBody, PassedBody, AnswersListing}
-use Rattle.judge.specs.Judging.{nodesOf, counted, Earlier, Faulted}
+use Rattle.judge.specs.Admitting.{startOf, Bodies, Admits, PosesBody, judgeBody, PassedBody, AnswersListing}
+use Rattle.judge.specs.Judging.{nodesOf, counted}
 use Rattle.judge.specs.Notes.{NotedBody, offsets, widths}
-use Rattle.judge.specs.Rules.{Basis, namesOf, typeOf}
+use Rattle.typing.specs.Rules.{Basis, namesOf, typeOf}
 use Rattle.judge.specs.declared.table.Note.{Note}
 use Rattle.judge.specs.declared.table.Table.{Table}
 use Rattle.judge.proofs.Noting.{kept}
@@ -55,6 +53,7 @@ start-after fs k (suc f) h l = go (cases-lt k f) (λ m. start-after fs k f m (om
   where
     step : f + 1 ≡ suc f
     step = omega arith
+
     go : (k < f) ⊎ (f ≤ k) → (k < f → startOf fs k + size (funAt fs k .body) ≤ startOf fs f) → startOf fs (f + 1) ≡ startOf fs f + size (funAt fs f .body) → startOf fs k + size (funAt fs k .body) ≤ startOf fs (suc f)
     go (inl m) i e = let j = i m in let y = ap (startOf fs) step in omega arith
     go (inr m) i e =
@@ -123,10 +122,11 @@ bodies-stand ns nodes (s ∷ ss) (e then es) i j a (suc f) h =
     let w = ap (startOf (functionsOf (s ∷ ss) (e then es))) z in
     let t = bodies-stand ns nodes ss es (F .middle) j (subst (λ (x : Exprs). All-stand ns nodes (map arity ss) (F .middle) x j) (sym r) (F .rest-stand)) f (le-of-suc-le-suc h) in
     stands-at ns nodes _ (F .middle + startOf (functionsOf ss es) f) (i + (size e + startOf (functionsOf ss es) f)) (F .middle + startOf (functionsOf ss es) (f + 1))
-      (i + startOf (functionsOf (s ∷ ss) (e then es)) (suc f + 1)) _ (omega arith) (omega arith) t
+    (i + startOf (functionsOf (s ∷ ss) (e then es)) (suc f + 1)) _ (omega arith) (omega arith) t
   where
     first-same : {x : Expr} {xs : Exprs} → (e then es) ≡ (x then xs) → e ≡ x
     first-same p = cc
+
     rest-same : {x : Expr} {xs : Exprs} → (e then es) ≡ (x then xs) → es ≡ xs
     rest-same p = cc
 
@@ -135,35 +135,42 @@ held l p h = subst (Held l (p .types)) (sym (h .functions)) it
   where
     ss : List TypeOf
     ss = h .signatures
+
     es : Exprs
     es = h .bodies
+
     fs : List Fun
     fs = functionsOf ss es
+
     enough : counted es ≡ length ss
     enough = stand-count (namesFor (p .types) ss) (nodesOf l) (h .stand) ∙ length-map ss arity
+
     few : length (fs) ≡ length (take (l .functions) (l .signatures))
     few = functions-many ss es enough ∙ sym (signed-many (p .types) (take (l .functions) (l .signatures)) ss (h .sign))
+
     names : namesFor (p .types) ss ≡ namesOf (p .types) (fs)
     names = ap (λ (a : List ℕ). record { types = p .types; arities = a }) (sym (arities-same ss es enough))
+
     sign : (f : ℕ) (d : Signature) → f < length (fs) → Signs (p .types) (getD (take (l .functions) (l .signatures)) f d) (typeOf (funAt (fs) f))
     sign f d k = all-signed (p .types) (take (l .functions) (l .signatures)) ss es enough (h .sign) f d k
+
     it : Held l (p .types) (fs)
     it = record {
-        basis = record {
-          typed = record { few = h .few-types; types = h .types };
-          few = let n = length-take (l .functions) (l .signatures) in let m = h .few-functions in let q = few in omega arith;
-          signed = λ f d k. let n = length-take (l .functions) (l .signatures) in let q = few in
+      basis = record {
+        typed = record { few = h .few-types; types = h .types };
+        few = let n = length-take (l .functions) (l .signatures) in let m = h .few-functions in let q = few in omega arith;
+        signed = λ f d k. let n = length-take (l .functions) (l .signatures) in let q = few in
             subst (λ (x : Signature). Signs (p .types) x (typeOf (funAt (fs) f))) (getD-take (l .functions) (l .signatures) f d (omega arith)) (sign f d k);
-          short = h .few-nodes;
-        };
-        many = few;
-        signs = sign;
-        stands = λ f k.
+        short = h .few-nodes;
+      };
+      many = few;
+      signs = sign;
+      stands = λ f k.
           stands-at (namesOf (p .types) fs) (nodesOf l) (length (funAt fs f .params)) (0 + startOf fs f) (startOf fs f) (0 + startOf fs (f + 1)) (startOf fs (f + 1)) (funAt fs f .body)
-            (omega arith) (omega arith)
-            (subst (λ (x : Names). Stands x (nodesOf l) (length (funAt fs f .params)) (0 + startOf fs f) (funAt fs f .body) (0 + startOf fs (f + 1))) names
-              (bodies-stand (namesFor (p .types) ss) (nodesOf l) ss es 0 (l .expressions) (h .stand) f k));
-      }
+          (omega arith) (omega arith)
+          (subst (λ (x : Names). Stands x (nodesOf l) (length (funAt fs f .params)) (0 + startOf fs f) (funAt fs f .body) (0 + startOf fs (f + 1))) names
+          (bodies-stand (namesFor (p .types) ss) (nodesOf l) ss es 0 (l .expressions) (h .stand) f k));
+    }
 
 -- ---- verdicts
 
@@ -190,11 +197,11 @@ pub record Upto (p : Program) (notes : List Note) (begins : List ℕ) (f n : ℕ
 
 pub upto-none : (p : Program) (notes : List Note) (begins : List ℕ) → Upto p notes begins 0 0
 upto-none p notes begins = record {
-    here = sym (start-none (p .functions));
-    verdict = refl;
-    starts = λ k h. absurd (not-suc-le-zero h);
-    noted = λ k h. absurd (not-suc-le-zero h);
-  }
+  here = sym (start-none (p .functions));
+  verdict = refl;
+  starts = λ k h. absurd (not-suc-le-zero h);
+  noted = λ k h. absurd (not-suc-le-zero h);
+}
 
 -- the signatures of a listing, as the code takes them
 abbrev part : Listing → List Signature
@@ -219,7 +226,7 @@ module _ (l : Listing) (p : Program) (h : Holds l p) (notes : List Note) (begins
           basis = H .basis;
           signs = subst (λ (x : List Signature). Signs (p .types) (getD x f noSignature) (typeOf (funAt (p .functions) f))) (sym (whole-part l)) (H .signs f noSignature within);
           stands = stands-at (namesOf (p .types) (p .functions)) (nodesOf l) (length (funAt (p .functions) f .params)) (startOf (p .functions) f) n
-            (startOf (p .functions) (f + 1)) (startOf (p .functions) (f + 1)) (funAt (p .functions) f .body) (sym (u .here)) refl (H .stands f within);
+              (startOf (p .functions) (f + 1)) (startOf (p .functions) (f + 1)) (funAt (p .functions) f .body) (sym (u .here)) refl (H .stands f within);
         }
 
     next : drop f (p .functions) ≡ funAt (p .functions) f ∷ drop (f + 1) (p .functions)
@@ -239,9 +246,9 @@ module _ (l : Listing) (p : Program) (h : Holds l p) (notes : List Note) (begins
         record {
           here = b .ends;
           verdict =
-            u .verdict ∙ ap (λ (x : List Fun). judgeBodies (p .functions) x n) next
-            ∙ then-fine (judge (p .functions) (funAt (p .functions) f .body) n (funAt (p .functions) f .params)) _ _ (b .typed)
-            ∙ ap (judgeBodies (p .functions) (drop (f + 1) (p .functions))) q;
+              u .verdict ∙ ap (λ (x : List Fun). judgeBodies (p .functions) x n) next
+              ∙ then-fine (judge (p .functions) (funAt (p .functions) f .body) n (funAt (p .functions) f .params)) _ _ (b .typed)
+              ∙ ap (judgeBodies (p .functions) (drop (f + 1) (p .functions))) q;
           starts = λ i j. starts-at i (cases-lt i f) j;
           noted = λ i j. noted-at i (cases-lt i f) j;
         }
@@ -252,29 +259,32 @@ module _ (l : Listing) (p : Program) (h : Holds l p) (notes : List Note) (begins
             let t = length-take (l .functions) (l .signatures) in
             let g = h .few-functions in
             omega arith
+
         starts-at : (i : ℕ) → (i < f) ⊎ (f ≤ i) → i < f + 1 → getD (set begins f n) i 0 ≡ startOf (p .functions) i
         starts-at i (inl j) g = getD-set-other begins f i n 0 (λ e. omega arith) ∙ u .starts i j
         starts-at i (inr j) g =
             let z : f ≡ i = omega arith in
             subst (λ (x : ℕ). getD (set begins f n) x 0 ≡ startOf (p .functions) x) z (getD-set-same begins f n 0 room ∙ u .here)
+
         noted-at : (i : ℕ) → (i < f) ⊎ (f ≤ i) → i < f + 1 → NotedBody (p .types) (p .functions) notes′ (funAt (p .functions) i) (startOf (p .functions) i)
         noted-at i (inl j) g =
             let a = start-after (p .functions) i f j (let w = within in omega arith) in
             let o = u .here in
             kept (p .types) (p .functions) notes notes′ (omega arith) (funAt (p .functions) i .body) (startOf (p .functions) i) (funAt (p .functions) i .params)
-              (offsets 0 (funAt (p .functions) i .params)) (widths (funAt (p .functions) i .params)) (funAt (p .functions) i .result)
-              (λ x d y z. b .earlier x d (omega arith)) (u .noted i j)
+            (offsets 0 (funAt (p .functions) i .params)) (widths (funAt (p .functions) i .params)) (funAt (p .functions) i .result)
+            (λ x d y z. b .earlier x d (omega arith)) (u .noted i j)
         noted-at i (inr j) g =
             let z : f ≡ i = omega arith in
             subst (λ (x : ℕ). NotedBody (p .types) (p .functions) notes′ (funAt (p .functions) x) (startOf (p .functions) x)) z
-              (subst (NotedBody (p .types) (p .functions) notes′ (funAt (p .functions) f)) (u .here) (b .noted))
+            (subst (NotedBody (p .types) (p .functions) notes′ (funAt (p .functions) f)) (u .here) (b .noted))
 
   pub upto-all : length (part l) ≤ f → (judgeProgram p ≡ fine tt) × Bodies (p .types) (p .functions) notes begins
   upto-all k =
       let m = held l p h .many in
-      let e = ap length (whole-part l) in
-      (u .verdict ∙ ap (λ (x : List Fun). judgeBodies (p .functions) x n) (drop-all f (p .functions) (omega arith)),
-        record { starts = λ i j. u .starts i (omega arith); noted = λ i j. u .noted i (omega arith) })
+      let e = ap length (whole-part l) in (
+        u .verdict ∙ ap (λ (x : List Fun). judgeBodies (p .functions) x n) (drop-all f (p .functions) (omega arith)),
+        record { starts = λ i j. u .starts i (omega arith); noted = λ i j. u .noted i (omega arith) },
+      )
 
 -- ---- admission
 

@@ -1,9 +1,5 @@
 pub mod Bodied
-pub mod Coding
-pub mod Masks
 pub mod Noting
 pub mod Passing
-pub mod Ruling
-pub mod Scoping
 pub mod Standing
 pub mod Verdicts

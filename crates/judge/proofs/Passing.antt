@@ -1,44 +1,44 @@
 -- What passes the judge: an expression by its parts and arms, and several by the first and the rest.
-use Prim.Native.Nat.{ℕ, zero, suc, _+_, _*_, _≤_, _<_}
+use Prim.Native.Nat.{ℕ, suc, _+_, _*_, _≤_, _<_}
 use native.Mathlib.Omega.{arith}
 use mathlib.Core.Bool.{Bool, true, false, not, _&&_, _||_}
 use mathlib.Core.List.{List, [], _∷_, _++_, map, append-assoc, append-nil}
 use mathlib.Core.Logic.{_⊎_, inl, inr}
 use mathlib.Core.Path.{_≡_, refl, sym, ap, ap₂, _∙_, subst}
 use lib.Bits.{bitOr, bitAnd}
-use lib.ListN.{length, getD, take, drop, set, replicate, length-take, length-map, length-replicate, length-set}
+use lib.ListN.{length, getD, take, set, replicate, length-take, length-map, length-replicate, length-set}
 use Rattle.std.proofs.shelf.Lists.{getD-set-same, getD-set-other}
-use Rattle.std.proofs.shelf.Tests.{and-parts, cases-bool, cases-eq}
+use Rattle.std.proofs.shelf.Tests.{and-parts, cases-eq}
 use Rattle.codec.specs.declared.fault.Fault.{Fault}
 use Rattle.codec.specs.declared.fault.Refusal.{Refusal}
 use Rattle.lfpl.proofs.SameTypes.{same-eq}
 use Rattle.lfpl.specs.Judge.{Verdict, fine, faulty, judge, judgeAll, judgeArms, shares}
-use Rattle.lfpl.specs.Reading.{Names, shape}
+use Rattle.lfpl.specs.Reading.{shape}
 use Rattle.lfpl.specs.Syntax.{Ty, int, width, sameTy, Head, var, Expr, Exprs, expr, end, _then_, size, sizes, Fun}
-use Rattle.lfpl.specs.Typing.{rule, fits, early, alike, typeAt, Rule as TypingRule, sameTys, funAt}
-use Rattle.tables.specs.Listed.{Stands, All-stand, headOf}
+use Rattle.lfpl.specs.Typing.{rule, fits, early, alike, typeAt, sameTys}
+use Rattle.tables.specs.Listed.{All-stand, headOf}
 use Rattle.tables.specs.declared.listing.Listing.{Listing}
 use Rattle.tables.specs.declared.listing.Node.{Node}
 use Rattle.tables.specs.declared.listing.Signature.{Signature}
-use Rattle.judge.specs.Codes.{Typed, Coded, CodedAll, Encodes, slotType, slotTypes}
+use Rattle.typing.specs.Codes.{Typed, Coded, CodedAll, Encodes, slotType, slotTypes}
 use Rattle.judge.specs.Judging.{nodesOf, armsFrom, counted, Poses, PosesAll, PosesArms, Passed, PassedAll, Earlier, ArmsNoted, Faulted}
 use Rattle.judge.specs.Notes.{noteAt, offsets, widths, NotedAt, Noted, NotedAll, NotedArms}
-use Rattle.judge.specs.Rules.{Agrees, Says, Basis, AllShort, Short, Known, subject, wanted, partsOf, asked, namesOf}
-use Rattle.judge.specs.Scopes.{Scopes, mask, masks, twice, headMask}
-use Rattle.judge.specs.declared.codes.Row.{Row}
-use Rattle.judge.specs.declared.codes.Slots.{Slots}
+use Rattle.typing.specs.Rules.{Agrees, Says, Basis, Short, Known, subject, wanted, partsOf, asked, namesOf}
+use Rattle.typing.specs.Scopes.{mask, masks, twice, headMask}
+use Rattle.typing.specs.declared.codes.Row.{Row}
+use Rattle.typing.specs.declared.codes.Slots.{Slots}
 use Rattle.judge.specs.declared.judge.Found.{Found}
 use Rattle.judge.specs.declared.judge.Several.{Several}
-use Rattle.judge.specs.declared.rules.About as A
-use Rattle.judge.specs.declared.rules.About.the-variants as About
-use Rattle.judge.specs.declared.rules.Rule.{Rule}
-use Rattle.judge.specs.declared.scope.Scope.{Scope}
+use Rattle.typing.specs.declared.rules.About as A
+use Rattle.typing.specs.declared.rules.About.the-variants as About
+use Rattle.typing.specs.declared.rules.Rule.{Rule}
+use Rattle.typing.specs.declared.scope.Scope.{Scope}
 use Rattle.judge.specs.declared.table.Note.{Note}
-use Rattle.judge.proofs.Coding.{code-cases, row-length}
-use Rattle.judge.proofs.Noting.{Same, kept, kept-all, kept-arms}
-use Rattle.judge.proofs.Ruling.{arity-is}
-use Rattle.judge.proofs.Standing.{extent, extent-all, stand-count, At-node, At-first, all-at}
-use Rattle.judge.proofs.Verdicts.{judged, all-judged, arms-judged}
+use Rattle.typing.proofs.Coding.{code-cases, row-length}
+use Rattle.judge.proofs.Noting.{kept, kept-all, kept-arms}
+use Rattle.typing.proofs.Ruling.{arity-is}
+use Rattle.judge.proofs.Standing.{extent-all, stand-count, At-node, all-at}
+use Rattle.judge.proofs.Verdicts.{all-judged, arms-judged}
 
 -- ---- widths
 
@@ -91,7 +91,7 @@ map-map f g [] = refl
 map-map f g (x ∷ xs) = ap (λ (l : List _). f (g x) ∷ l) (map-map f g xs)
 
 module _ (l : Listing) (s : Scope) (n : ℕ) (ts : List Ty) (fs : List Fun) (Γ : List Ty) (ps : List ℕ) (e : Expr) (j : ℕ) (P : Poses l s n ts fs Γ ps e j)
-         (x : Node) (N : At-node ts fs (nodesOf l) x (length Γ) n e j) where
+    (x : Node) (N : At-node ts fs (nodesOf l) x (length Γ) n e j) where
   pub inside : (n < l .expressions) × (n < 512)
   inside =
       let i = N .inside in
@@ -124,10 +124,10 @@ module _ (l : Listing) (s : Scope) (n : ℕ) (ts : List Ty) (fs : List Fun) (Γ 
 
       pub parts-posed : PosesAll l s (replicate c (length Γ)) (n + 1) ts fs Γ ps (N .parts) (N .middle)
       parts-posed = record {
-          basis = P .basis;
-          scope = P .scope;
-          stand = subst (λ (m : ℕ). All-stand (namesOf ts fs) (nodesOf l) (replicate m (length Γ)) (n + 1) (N .parts) (N .middle)) (says [] .parts ∙ sym is) (N .parts-stand);
-        }
+        basis = P .basis;
+        scope = P .scope;
+        stand = subst (λ (m : ℕ). All-stand (namesOf ts fs) (nodesOf l) (replicate m (length Γ)) (n + 1) (N .parts) (N .middle)) (says [] .parts ∙ sym is) (N .parts-stand);
+      }
 
       -- the parts have the types As
       module _ (As : List Ty) (many : length As ≡ counted (N .parts)) where
@@ -174,17 +174,17 @@ module _ (l : Listing) (s : Scope) (n : ℕ) (ts : List Ty) (fs : List Fun) (Γ 
         pub arms-posed : (c k : ℕ) → Coded ts c (subject ts fs Γ (x .number) As (r .about)) → k ≡ N .middle
             → PosesArms l s r c 0 k ts fs Γ ps (subject ts fs Γ (x .number) As (r .about)) (N .arms) j
         arms-posed c k h e = record {
-            all = record {
-              basis = P .basis;
-              scope = P .scope;
-              stand = all-at (namesOf ts fs) (nodesOf l) (map (λ (y : Slots). length Γ + y .count) (armsFrom r 0)) (N .arms) e
+          all = record {
+            basis = P .basis;
+            scope = P .scope;
+            stand = all-at (namesOf ts fs) (nodesOf l) (map (λ (y : Slots). length Γ + y .count) (armsFrom r 0)) (N .arms) e
                 (subst (λ (y : List ℕ). All-stand (namesOf ts fs) (nodesOf l) y (N .middle) (N .arms) j)
-                  (ap (map (λ (b : ℕ). length Γ + b)) (says As .binds) ∙ map-map (λ (b : ℕ). length Γ + b) (λ (y : Slots). y .count) (take (r .arms) (r .binds))) (N .arms-stand));
-            };
-            code = h;
-            full = ag .full;
-            short = ag .short .1;
-          }
+                (ap (map (λ (b : ℕ). length Γ + b)) (says As .binds) ∙ map-map (λ (b : ℕ). length Γ + b) (λ (y : Slots). y .count) (take (r .arms) (r .binds))) (N .arms-stand));
+          };
+          code = h;
+          full = ag .full;
+          short = ag .short .1;
+        }
 
       -- the arms have the types Bs
       module _ (Bs : List Ty) (many : length Bs ≡ counted (N .arms)) where
@@ -223,35 +223,42 @@ passes ts fs Γ ps over n j m e h es qs is at-m at-j As Bs bs notes notes₁ not
       code = code;
       occur = ap₂ bitOr own (ap₂ bitOr mps mqs) ∙ ap mask (sym is);
       ends = ends;
-      noted = subst (λ (x : Expr). Noted ts fs notes₃ x n Γ ps over (rule fs Γ h As .whole (typeAt Bs 0))) (sym is)
-        (As, typeAt Bs 0, at,
-          kept-all ts fs notes₁ notes₃ (let q = length-set notes₂ n note in omega arith) es (n + 1) Γ ps over As
+      noted = subst (λ (x : Expr). Noted ts fs notes₃ x n Γ ps over (rule fs Γ h As .whole (typeAt Bs 0))) (sym is) (
+        As,
+        typeAt Bs 0,
+        at,
+        kept-all ts fs notes₁ notes₃ (let q = length-set notes₂ n note in omega arith) es (n + 1) Γ ps over As
             (λ i d l u. other i d (omega arith) ∙ before₂ i d (omega arith)) all,
-          subst (λ (y : List (List Ty)). NotedArms ts fs notes₃ qs (n + 1 + sizes es) y Γ ps over (typeAt Bs 0)) (sym agree)
+        subst (λ (y : List (List Ty)). NotedArms ts fs notes₃ qs (n + 1 + sizes es) y Γ ps over (typeAt Bs 0)) (sym agree)
             (subst (λ (y : ℕ). NotedArms ts fs notes₃ qs y bs Γ ps over (typeAt Bs 0)) at-m
-              (kept-arms ts fs notes₂ notes₃ (let q = length-set notes₂ n note in omega arith) qs m bs Γ ps over (typeAt Bs 0)
-                (λ i d l u. other i d (omega arith)) (arms (typeAt Bs 0) same))));
+            (kept-arms ts fs notes₂ notes₃ (let q = length-set notes₂ n note in omega arith) qs m bs Γ ps over (typeAt Bs 0)
+            (λ i d l u. other i d (omega arith)) (arms (typeAt Bs 0) same))),
+      );
       earlier = λ i d l. other i d (omega arith) ∙ before₂ i d (omega arith) ∙ before i d (omega arith);
     }
   where
     note : Note
     note = record { code = c; end = k; place = p }
+
     notes₃ : List Note
     notes₃ = set notes₂ n note
+
     other : (i : ℕ) (d : Note) → (i ≡ n → ⊥) → getD notes₃ i d ≡ getD notes₂ i d
     other i d l = getD-set-other notes₂ n i note d l
+
     here : noteAt notes₃ n ≡ note
     here = getD-set-same notes₂ n note _ inside
+
     at : NotedAt ts fs notes₃ n h es qs Γ ps As (typeAt Bs 0) (rule fs Γ h As .whole (typeAt Bs 0))
     at = record {
-        inside = let q = length-set notes₂ n note in omega arith;
-        code = subst (λ (y : Note). Coded ts (y .code) (rule fs Γ h As .whole (typeAt Bs 0))) (sym here) code;
-        ends = ap (λ (y : Note). y .end) here ∙ ends ∙ (let z : j ≡ n + (1 + (sizes es + sizes qs)) = omega arith in z);
-        place = λ i q. ap (λ (y : Note). y .place) here ∙ place i q;
-        fit = fit;
-        whole = refl;
-        apart = apart;
-      }
+      inside = let q = length-set notes₂ n note in omega arith;
+      code = subst (λ (y : Note). Coded ts (y .code) (rule fs Γ h As .whole (typeAt Bs 0))) (sym here) code;
+      ends = ap (λ (y : Note). y .end) here ∙ ends ∙ (let z : j ≡ n + (1 + (sizes es + sizes qs)) = omega arith in z);
+      place = λ i q. ap (λ (y : Note). y .place) here ∙ place i q;
+      fit = fit;
+      whole = refl;
+      apart = apart;
+    }
 
 -- the test of the masks
 pub shared-test : (r s : Bool) (b : Bool) → r ≡ not b → b ≡ not s → r ≡ s
@@ -283,24 +290,24 @@ regroup xs A ys = append-assoc xs (A ∷ []) ys
 pub none-pass : (ts before : List Ty) (v : Verdict (List Ty)) (es : Exprs) (n j : ℕ) (Holding : List Ty → Type 0) (notes : List Note) (r : Several)
     → es ≡ end → j ≡ n → v ≡ fine [] → Holding [] → Encodes ts (r .row) before → r .mask ≡ 0 → r .twice ≡ 0 → r .end ≡ n → PassedAll ts before v es n j Holding notes notes r
 none-pass ts before v es n j Holding notes r is at typed holding row m t e = record {
-    types = [];
-    typed = typed;
-    row = subst (Encodes ts (r .row)) (sym (append-nil before)) row;
-    occur = m ∙ ap masks (sym is);
-    again = t ∙ ap twice (sym is);
-    ends = e ∙ sym at;
-    many = ap counted (sym is);
-    noted = holding;
-    earlier = λ i d l. refl;
-  }
+  types = [];
+  typed = typed;
+  row = subst (Encodes ts (r .row)) (sym (append-nil before)) row;
+  occur = m ∙ ap masks (sym is);
+  again = t ∙ ap twice (sym is);
+  ends = e ∙ sym at;
+  many = ap counted (sym is);
+  noted = holding;
+  earlier = λ i d l. refl;
+}
 
 module _ (ts : List Ty) (fs : List Fun) (Γ : List Ty) (ps : List ℕ) (before : List Ty) (n k j over : ℕ) (e : Expr) (rest es : Exprs) (notes notes₁ notes₂ : List Note) (f : Found) (r : Several)
-         (is : es ≡ e then rest) (ends : k ≡ n + size e) (long : length notes₁ ≡ length notes₂) where
+    (is : es ≡ e then rest) (ends : k ≡ n + size e) (long : length notes₁ ≡ length notes₂) where
   -- the first of several parts, and then the rest
   pub parts-pass : (over′ : ℕ) (P : Passed ts fs Γ ps over n e k notes notes₁ f) → over′ ≡ over + width (P .type)
       → PassedAll ts (before ++ P .type ∷ []) (judgeAll fs rest (f .end) Γ) rest (f .end) j (λ As. NotedAll ts fs notes₂ rest (f .end) Γ ps over′ As) notes₁ notes₂ r
       → PassedAll ts before (judgeAll fs es n Γ) es n j (λ As. NotedAll ts fs notes₂ es n Γ ps over As) notes notes₂
-          (record { row = r .row; mask = bitOr (f .mask) (r .mask); twice = bitOr (bitAnd (f .mask) (r .mask)) (r .twice); end = r .end })
+      (record { row = r .row; mask = bitOr (f .mask) (r .mask); twice = bitOr (bitAnd (f .mask) (r .mask)) (r .twice); end = r .end })
   parts-pass over′ P o R =
       let q : f .end ≡ n + size e = P .ends ∙ ends in
       record {
@@ -311,10 +318,11 @@ module _ (ts : List Ty) (fs : List Fun) (Γ : List Ty) (ps : List ℕ) (before :
         again = both-twice (f .mask) (r .mask) (r .twice) e rest es is (P .occur) (R .occur) (R .again);
         ends = R .ends;
         many = (let m = R .many in let z : suc (length (R .types)) ≡ 1 + counted rest = omega arith in z) ∙ ap counted (sym is);
-        noted = subst (λ (x : Exprs). NotedAll ts fs notes₂ x n Γ ps over (P .type ∷ R .types)) (sym is)
-          (kept ts fs notes₁ notes₂ (omega arith) e n Γ ps over (P .type) (λ i d l u. R .earlier i d (omega arith)) (P .noted),
-            subst (λ (x : ℕ). NotedAll ts fs notes₂ rest x Γ ps (over + width (P .type)) (R .types)) q
-              (subst (λ (x : ℕ). NotedAll ts fs notes₂ rest (f .end) Γ ps x (R .types)) o (R .noted)));
+        noted = subst (λ (x : Exprs). NotedAll ts fs notes₂ x n Γ ps over (P .type ∷ R .types)) (sym is) (
+          kept ts fs notes₁ notes₂ (omega arith) e n Γ ps over (P .type) (λ i d l u. R .earlier i d (omega arith)) (P .noted),
+          subst (λ (x : ℕ). NotedAll ts fs notes₂ rest x Γ ps (over + width (P .type)) (R .types)) q
+              (subst (λ (x : ℕ). NotedAll ts fs notes₂ rest (f .end) Γ ps x (R .types)) o (R .noted)),
+        );
         earlier = λ i d l. R .earlier i d (omega arith) ∙ P .earlier i d l;
       }
 
@@ -323,7 +331,7 @@ module _ (ts : List Ty) (fs : List Fun) (Γ : List Ty) (ps : List ℕ) (before :
       → (P : Passed ts fs (Γ ++ b) (ps ++ offsets over b) over′ n e k notes notes₁ f)
       → PassedAll ts (before ++ P .type ∷ []) (judgeArms fs rest bs w (f .end) Γ) rest (f .end) j (ArmsNoted ts fs notes₂ rest (f .end) bs Γ ps over) notes₁ notes₂ r
       → PassedAll ts before (judgeArms fs es bss w n Γ) es n j (ArmsNoted ts fs notes₂ es n bss Γ ps over) notes notes₂
-          (record { row = r .row; mask = bitOr (f .mask) (r .mask); twice = bitOr (bitAnd (f .mask) (r .mask)) (r .twice); end = r .end })
+      (record { row = r .row; mask = bitOr (f .mask) (r .mask); twice = bitOr (bitAnd (f .mask) (r .mask)) (r .twice); end = r .end })
   arms-pass w over′ b bs bss binds o P R =
       let q : f .end ≡ n + size e = P .ends ∙ ends in
       record {
@@ -335,13 +343,14 @@ module _ (ts : List Ty) (fs : List Fun) (Γ : List Ty) (ps : List ℕ) (before :
         ends = R .ends;
         many = (let m = R .many in let z : suc (length (R .types)) ≡ 1 + counted rest = omega arith in z) ∙ ap counted (sym is);
         noted = λ B same.
-          let t = and-parts (sameTy B (P .type)) (alike B (R .types)) same in
-          subst (λ (x : Exprs). NotedArms ts fs notes₂ x n bss Γ ps over B) (sym is)
-            (subst (λ (x : List (List Ty)). NotedArms ts fs notes₂ (e then rest) n x Γ ps over B) (sym binds)
-              (subst (λ (X : Ty). Noted ts fs notes₂ e n (Γ ++ b) (ps ++ offsets over b) (over + widths b) X) (sym (same-eq B (P .type) (t .0)))
-                (subst (λ (x : ℕ). Noted ts fs notes₂ e n (Γ ++ b) (ps ++ offsets over b) x (P .type)) o
+            let t = and-parts (sameTy B (P .type)) (alike B (R .types)) same in
+            subst (λ (x : Exprs). NotedArms ts fs notes₂ x n bss Γ ps over B) (sym is)
+            (subst (λ (x : List (List Ty)). NotedArms ts fs notes₂ (e then rest) n x Γ ps over B) (sym binds) (
+              subst (λ (X : Ty). Noted ts fs notes₂ e n (Γ ++ b) (ps ++ offsets over b) (over + widths b) X) (sym (same-eq B (P .type) (t .0)))
+                  (subst (λ (x : ℕ). Noted ts fs notes₂ e n (Γ ++ b) (ps ++ offsets over b) x (P .type)) o
                   (kept ts fs notes₁ notes₂ (omega arith) e n (Γ ++ b) (ps ++ offsets over b) over′ (P .type) (λ i d l u. R .earlier i d (omega arith)) (P .noted))),
-                subst (λ (x : ℕ). NotedArms ts fs notes₂ rest x bs Γ ps over B) q (R .noted B (t .1))));
+              subst (λ (x : ℕ). NotedArms ts fs notes₂ rest x bs Γ ps over B) q (R .noted B (t .1)),
+            ));
         earlier = λ i d l. R .earlier i d (omega arith) ∙ P .earlier i d l;
       }
 
@@ -350,4 +359,4 @@ pub body-noted : (ts : List Ty) (fs : List Fun) (notes : List Note) (e : Expr) (
     → Noted ts fs notes e n Γ (offsets z Γ) w A → Noted ts fs notes e n Γ (offsets 0 Γ) (widths Γ) B
 body-noted ts fs notes e n Γ z w A B p q r t =
     subst (λ (x : ℕ). Noted ts fs notes e n Γ (offsets x Γ) (widths Γ) B) p
-      (subst (λ (x : ℕ). Noted ts fs notes e n Γ (offsets z Γ) x B) q (subst (λ (X : Ty). Noted ts fs notes e n Γ (offsets z Γ) w X) r t))
+    (subst (λ (x : ℕ). Noted ts fs notes e n Γ (offsets z Γ) x B) q (subst (λ (X : Ty). Noted ts fs notes e n Γ (offsets z Γ) w X) r t))

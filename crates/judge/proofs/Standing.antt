@@ -4,7 +4,7 @@ use native.Mathlib.Nat.{le-of-suc-le-suc, not-suc-le-zero}
 use native.Mathlib.Omega.{arith}
 use mathlib.Core.List.{List, [], _∷_, _++_, map}
 use mathlib.Core.Path.{_≡_, refl, sym, ap, _∙_, subst}
-use lib.ListN.{length, getD, take, drop, replicate, length-take, length-map, length-append}
+use lib.ListN.{length, getD, take, replicate, length-take, length-map, length-append}
 use Rattle.std.proofs.shelf.Lists.{getD-take, drop-more, drop-all}
 use Rattle.lfpl.specs.Reading.{Names, shape}
 use Rattle.lfpl.specs.Syntax.{Ty, Expr, Exprs, expr, end, _then_, size, sizes, Fun}
@@ -13,10 +13,10 @@ use Rattle.tables.specs.declared.listing.Kind.the-variants as Kind
 use Rattle.tables.specs.declared.listing.Listing.{Listing}
 use Rattle.tables.specs.declared.listing.Node.{Node}
 use Rattle.judge.specs.Judging.{nodesOf, armsFrom, counted}
-use Rattle.judge.specs.Codes.{slotType, slotTypes}
-use Rattle.judge.specs.Rules.{namesOf, Short, AllShort}
-use Rattle.judge.specs.declared.codes.Slots.{Slots}
-use Rattle.judge.specs.declared.rules.Rule.{Rule}
+use Rattle.typing.specs.Codes.{slotType, slotTypes}
+use Rattle.typing.specs.Rules.{namesOf, Short, AllShort}
+use Rattle.typing.specs.declared.codes.Slots.{Slots}
+use Rattle.typing.specs.declared.rules.Rule.{Rule}
 
 -- an expression takes as many nodes as it has expressions, and ends within the nodes
 mutual
@@ -56,7 +56,7 @@ pub record At-node (ts : List Ty) (fs : List Fun) (nodes : List Node) (x : Node)
 at-listed : (ts : List Ty) (fs : List Fun) (nodes : List Node) (d : Node) {n i k : ℕ} {e : Expr} → Stands (namesOf ts fs) nodes n i e k → At-node ts fs nodes (getD nodes i d) n i e k
 at-listed ts fs nodes d (stands n i j k x ps qs inside at small range s t) =
     subst (λ (y : Node). At-node ts fs nodes y n i (expr (headOf ts x) ps qs) k) (sym (at d))
-      (record { parts = ps; arms = qs; middle = j; is = refl; inside = inside; small = small; range = range; parts-stand = s; arms-stand = t })
+    (record { parts = ps; arms = qs; middle = j; is = refl; inside = inside; small = small; range = range; parts-stand = s; arms-stand = t })
 
 pub at-node : (l : Listing) (ts : List Ty) (fs : List Fun) (d : Node) {n i k : ℕ} {e : Expr} → Stands (namesOf ts fs) (nodesOf l) n i e k
     → At-node ts fs (nodesOf l) (getD (l .nodes) i d) n i e k
@@ -80,8 +80,14 @@ at-first ns nodes n scopes all e (all-end i h) = absurd (let z : _≡_ {A = ℕ}
 at-first ns nodes n scopes all e (all-more m rest i j k x es s t) =
     let p : m ≡ n = cc in
     let q : rest ≡ scopes = cc in
-    record { first = x; rest = es; middle = j; is = refl;
-      first-stands = subst (λ (y : ℕ). Stands ns nodes y i x j) p s; rest-stand = subst (λ (y : List ℕ). All-stand ns nodes y j es k) q t }
+    record {
+      first = x;
+      rest = es;
+      middle = j;
+      is = refl;
+      first-stands = subst (λ (y : ℕ). Stands ns nodes y i x j) p s;
+      rest-stand = subst (λ (y : List ℕ). All-stand ns nodes y j es k) q t;
+    }
 
 pub at-none : (ns : Names) (nodes : List Node) (all : List ℕ) {i k : ℕ} {es : Exprs} → all ≡ [] → All-stand ns nodes all i es k → (es ≡ end) × (k ≡ i)
 at-none ns nodes all e (all-end i h) = (refl, refl)

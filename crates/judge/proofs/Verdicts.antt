@@ -1,14 +1,14 @@
 -- The judgement, step by step.
 use Prim.Native.Nat.{ℕ, suc, _+_}
 use native.Mathlib.Omega.{arith}
-use mathlib.Core.Bool.{Bool, true, false, not, _&&_, _||_}
+use mathlib.Core.Bool.{true, false, not, _&&_, _||_}
 use mathlib.Core.List.{List, [], _∷_, _++_}
-use mathlib.Core.Path.{_≡_, refl, sym, ap, _∙_}
+use mathlib.Core.Path.{_≡_, refl, ap, _∙_}
 use Rattle.codec.specs.declared.fault.Refusal.{Refusal}
 use Rattle.codec.specs.declared.fault.Refusal.the-variants.{TypeFault, Sharing}
-use Rattle.lfpl.specs.Judge.{Verdict, fine, faulty, _>>=_, demand, shares, judge, judgeAll, judgeArms}
+use Rattle.lfpl.specs.Judge.{fine, faulty, _>>=_, demand, shares, judge, judgeAll, judgeArms}
 use Rattle.lfpl.specs.Syntax.{Ty, Head, Expr, Exprs, expr, end, _then_, size, sizes, Fun}
-use Rattle.lfpl.specs.Typing.{rule, fits, early, alike, typeAt, Rule}
+use Rattle.lfpl.specs.Typing.{rule, fits, early, alike, typeAt}
 
 -- an expression that has its parts from k on and its arms from m on
 module _ (fs : List Fun) (Γ : List Ty) (n k m : ℕ) (e : Expr) (h : Head) (ps qs : Exprs) (is : e ≡ expr h ps qs) (at-parts : k ≡ n + 1) (at-arms : m ≡ k + sizes ps) where

@@ -8,7 +8,7 @@ use Rattle.std.specs.declared.result.Result.the-variants.{Ok, Err}
 use Rattle.codec.specs.declared.fault.Fault.{Fault}
 use Rattle.codec.specs.declared.fault.Refusal.the-variants.{TypeFault}
 use Rattle.lfpl.specs.Admission.{admission}
-use Rattle.lfpl.specs.Judge.{Verdict, fine, _>>=_, demand, judge, judgeBodies, judgeProgram}
+use Rattle.lfpl.specs.Judge.{Verdict, fine, _>>=_, demand, judge, judgeProgram}
 use Rattle.lfpl.specs.Syntax.{Ty, sameTy, size, Fun, Program}
 use Rattle.lfpl.specs.Typing.{funAt}
 use Rattle.tables.specs.Listed.{Holds, Stands, Signs}
@@ -16,7 +16,7 @@ use Rattle.tables.specs.declared.listing.Listing.{Listing}
 use Rattle.tables.specs.declared.listing.Signature.{Signature}
 use Rattle.judge.specs.Judging.{Earlier, Faulted, nodesOf}
 use Rattle.judge.specs.Notes.{NotedBody}
-use Rattle.judge.specs.Rules.{Basis, namesOf, typeOf}
+use Rattle.typing.specs.Rules.{Basis, namesOf, typeOf}
 use Rattle.judge.specs.declared.table.Note.{Note}
 use Rattle.judge.specs.declared.table.Table.{Table}
 

@@ -14,15 +14,15 @@ use Rattle.lfpl.specs.Judge.{Verdict, fine, faulty, judge}
 use Rattle.tables.specs.Listed.{Stands, All-stand}
 use Rattle.tables.specs.declared.listing.Listing.{Listing}
 use Rattle.tables.specs.declared.listing.Node.{Node}
-use Rattle.judge.specs.Codes.{Coded, Encodes}
+use Rattle.typing.specs.Codes.{Coded, Encodes}
 use Rattle.judge.specs.Notes.{Noted, NotedArms}
-use Rattle.judge.specs.Rules.{Basis, AllShort, namesOf}
-use Rattle.judge.specs.Scopes.{Scopes, mask, masks, twice}
-use Rattle.judge.specs.declared.codes.Slots.{Slots}
+use Rattle.typing.specs.Rules.{Basis, AllShort, namesOf}
+use Rattle.typing.specs.Scopes.{Scopes, mask, masks, twice}
+use Rattle.typing.specs.declared.codes.Slots.{Slots}
 use Rattle.judge.specs.declared.judge.Found.{Found}
 use Rattle.judge.specs.declared.judge.Several.{Several}
-use Rattle.judge.specs.declared.rules.Rule.{Rule}
-use Rattle.judge.specs.declared.scope.Scope.{Scope}
+use Rattle.typing.specs.declared.rules.Rule.{Rule}
+use Rattle.typing.specs.declared.scope.Scope.{Scope}
 use Rattle.judge.specs.declared.table.Note.{Note}
 
 -- the expressions of the listing

@@ -5,20 +5,11 @@ use mathlib.Core.List.{List, [], _∷_, _++_}
 use mathlib.Core.Path.{_≡_}
 use lib.ListN.{length, getD}
 use Rattle.lfpl.specs.Syntax.{Ty, width, Head, var, Expr, Exprs, expr, end, _then_, size, sizes, Fun}
-use Rattle.lfpl.specs.Typing.{rule, fits, Rule}
+use Rattle.lfpl.specs.Typing.{rule, fits}
 use Rattle.lfpl.specs.Judge.{shares}
-use Rattle.judge.specs.Codes.{Coded}
+use Rattle.typing.specs.Codes.{Coded}
+pub use Rattle.typing.specs.Scopes.{widths, offsets}
 use Rattle.judge.specs.declared.table.Note.{Note}
-
--- how many words values of the types have together
-abbrev pub widths : List Ty → ℕ
-widths [] = 0
-widths (A ∷ As) = width A + widths As
-
--- where the words of each begin, one after another from a place on
-abbrev pub offsets : ℕ → List Ty → List ℕ
-offsets over [] = []
-offsets over (A ∷ As) = over ∷ offsets (over + width A) As
 
 -- the note at the expression with the number n
 abbrev pub noteAt : List Note → ℕ → Note

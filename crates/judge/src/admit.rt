@@ -1,8 +1,8 @@
 ghost use Rattle.lfpl.specs.Admission.{Admission-is-typing};
 ghost use Rattle.judge.specs.Admitting.{Admits};
-use codec::fault::Fault;
 use crate::judge::judge_listing;
 use crate::table::Table;
+use codec::fault::Fault;
 use tables::read::read_table;
 
 // Admits a table: its bytes are read, and what they spell is judged. A table is admitted exactly when Hofmann's rules give each body its declared type; else the

@@ -2,49 +2,50 @@ ghost use Prim.Native.Nat.{ℕ, _+_, _*_, _<_, _≤_};
 ghost use lib.Bits.{bitAnd, bitOr};
 ghost use lib.Dec.{eqb};
 ghost use lib.ListN.{getD, length, replicate};
-ghost use mathlib.Core.Bool.{Bool, true, _&&_, not};
+ghost use mathlib.Core.Bool.{_&&_, not};
 ghost use mathlib.Core.List.{List, map};
 ghost use mathlib.Core.Path.{_≡_};
+ghost use Rattle.codec.specs.declared.fault.Part.the-variants.{Judgement};
 ghost use Rattle.lfpl.specs.Judge.{judgeAll, judgeArms};
 ghost use Rattle.lfpl.specs.Syntax.{Expr, Exprs, Fun, Program, Ty, var};
 ghost use Rattle.lfpl.specs.Typing.{alike, typeAt};
 ghost use Rattle.tables.specs.Listed.{Holds, InRange, headOf};
 ghost use Rattle.judge.specs.Admitting.{AnswersBodies, AnswersBody, AnswersListing, PosedBody, PosesBody};
-ghost use Rattle.judge.specs.Codes.{Encodes, Typed, slotTypes};
+ghost use Rattle.typing.specs.Codes.{Encodes, Typed, slotTypes};
 ghost use Rattle.judge.specs.Judging.{Answers, AnswersAll, ArmsNoted, Poses, PosesAll, PosesArms, Posed, PosedAll, PosedArms, armsFrom};
 ghost use Rattle.judge.specs.Notes.{NotedAll};
-ghost use Rattle.judge.specs.Rules.{namesOf};
-ghost use Rattle.judge.specs.Scopes.{Scopes, headMask};
+ghost use Rattle.typing.specs.Rules.{namesOf};
+ghost use Rattle.typing.specs.Scopes.{Scopes, headMask};
+use crate::table::Note;
+use crate::table::Table;
 use codec::fault::Fault;
 use codec::fault::Part;
 use codec::fault::Refusal;
-use crate::codes::alike;
-use crate::codes::code_of;
-use crate::codes::no_codes;
-use crate::codes::parameter_codes;
-use crate::codes::push;
-use crate::codes::slot_codes;
-use crate::codes::Row;
-use crate::rules::fits;
-use crate::rules::parts_of;
-use crate::rules::rule_of;
-use crate::rules::subject;
-use crate::rules::whole;
-use crate::rules::Rule;
-use crate::scope::extend_all;
-use crate::scope::no_variables;
-use crate::scope::raise;
-use crate::scope::Scope;
-use crate::table::Note;
-use crate::table::Table;
 use tables::listing::Kind;
 use tables::listing::Listing;
 use tables::listing::Node;
 use tables::listing::Signature;
+use typing::codes::Row;
+use typing::codes::alike;
+use typing::codes::code_of;
+use typing::codes::no_codes;
+use typing::codes::parameter_codes;
+use typing::codes::push;
+use typing::codes::slot_codes;
+use typing::rules::Rule;
+use typing::rules::fits;
+use typing::rules::parts_of;
+use typing::rules::rule_of;
+use typing::rules::subject;
+use typing::rules::whole;
+use typing::scope::Scope;
+use typing::scope::extend_all;
+use typing::scope::no_variables;
+use typing::scope::raise;
 
 // what is found of an expression: the code of its type, the variables that occur in it (a bit for each), and the number of the expression after it
 #[derive(Clone, Copy)]
-pub struct Found {
+pub(crate) struct Found {
     pub code: u8,
     pub mask: u32,
     pub end: usize,
@@ -53,11 +54,22 @@ pub struct Found {
 // What is found of several: the codes of their types, the variables that occur, those that occur in two or more of them, and the number of the expression after
 // them.
 #[derive(Clone, Copy)]
-pub struct Several {
+pub(crate) struct Several {
     pub row: Row,
     pub mask: u32,
     pub twice: u32,
     pub end: usize,
+}
+
+// A fault of the judgement at an expression.
+fn fault(refusal: Refusal, place: usize) -> Fault
+    ensures { λ r. ⌜ r ≡ record { refusal = refusal; place = place; part = Judgement } ⌝ }
+{
+    Fault {
+        refusal,
+        place,
+        part: Part::Judgement,
+    }
 }
 
 // The variable that the expression itself is, if it is one.
@@ -128,24 +140,32 @@ fn judge(listing: &Listing, at: usize, scope: Scope, notes: &mut [Note]) -> Resu
     let about = subject(listing, rule, node.number, scope, parts.row);
     let fit = fits(listing, rule, node.number, about, parts.row);
     if unfit_choice(rule, fit) {
-        return Err(Fault { refusal: Refusal::TypeFault, place: at, part: Part::Judgement });
+        return Err(fault(Refusal::TypeFault, at));
     }
     let arms = judge_arms(listing, rule, about, 0, parts.end, scope, no_codes(), notes)?;
     if !settled(fit, arms.row) {
-        return Err(Fault { refusal: Refusal::TypeFault, place: at, part: Part::Judgement });
+        return Err(fault(Refusal::TypeFault, at));
     }
     if shared(scope, parts, arms) {
-        return Err(Fault { refusal: Refusal::Sharing, place: at, part: Part::Judgement });
+        return Err(fault(Refusal::Sharing, at));
     }
     let code = whole(listing, rule, about, arms.row);
     let place = place_of(scope, node);
-    notes[at] = Note { code, end: arms.end, place };
+    let end = arms.end;
+    notes[at] = Note { code, end, place };
     let mask = own_mask(node) | (parts.mask | arms.mask);
-    Ok(Found { code, mask, end: arms.end })
+    Ok(Found { code, mask, end })
 }
 
 // Judges `count` parts from the number `at` on, each over the words of those before it; their types follow those of `done`.
-fn judge_parts(listing: &Listing, count: usize, at: usize, scope: Scope, done: Row, notes: &mut [Note]) -> Result<Several, Fault>
+fn judge_parts(
+    listing: &Listing,
+    count: usize,
+    at: usize,
+    scope: Scope,
+    done: Row,
+    notes: &mut [Note],
+) -> Result<Several, Fault>
     requires long { ⌜ length (now notes) ≡ 512 ⌝ }
     requires low { ⌜ scope .over + 16 * count ≤ 96 * (at + 1) ⌝ }
     requires room { ⌜ done .count + count ≤ 6 ⌝ }
@@ -153,7 +173,12 @@ fn judge_parts(listing: &Listing, count: usize, at: usize, scope: Scope, done: R
     ensures { λ r. ⌜ ((ts : List Ty) (fs : List Fun) (Γ : List Ty) (ps : List ℕ) (Ds : List Ty) (es : Exprs) (j : ℕ) → PosesAll (now (listing .entry)) scope (replicate count (length Γ)) at ts fs Γ ps es j → Encodes ts done Ds → AnswersAll ts Ds (judgeAll fs es at Γ) es at j (λ As. NotedAll ts fs (now (notes .exit)) es at Γ ps (scope .over) As) (now (notes .entry)) (now (notes .exit)) r) ⌝ }
 {
     if count == 0 {
-        return Ok(Several { row: done, mask: 0, twice: 0, end: at });
+        return Ok(Several {
+            row: done,
+            mask: 0,
+            twice: 0,
+            end: at,
+        });
     }
     let first = judge(listing, at, scope, notes)?;
     let more = push(done, first.code);
@@ -164,7 +189,16 @@ fn judge_parts(listing: &Listing, count: usize, at: usize, scope: Scope, done: R
 
 // Judges the arms of an expression from the arm `arm` on, which has the number `at`, where the rule is about the type with the code; their types follow those of
 // `done`.
-fn judge_arms(listing: &Listing, rule: Rule, code: u8, arm: usize, at: usize, scope: Scope, done: Row, notes: &mut [Note]) -> Result<Several, Fault>
+fn judge_arms(
+    listing: &Listing,
+    rule: Rule,
+    code: u8,
+    arm: usize,
+    at: usize,
+    scope: Scope,
+    done: Row,
+    notes: &mut [Note],
+) -> Result<Several, Fault>
     requires long { ⌜ length (now notes) ≡ 512 ⌝ }
     requires low { ⌜ scope .over ≤ 96 * at ⌝ }
     requires few { ⌜ rule .arms ≤ 2 ⌝ }
@@ -173,7 +207,12 @@ fn judge_arms(listing: &Listing, rule: Rule, code: u8, arm: usize, at: usize, sc
     ensures { λ r. ⌜ ((ts : List Ty) (fs : List Fun) (Γ : List Ty) (ps : List ℕ) (Ds : List Ty) (A : Ty) (es : Exprs) (w j : ℕ) → PosesArms (now (listing .entry)) scope rule code arm at ts fs Γ ps A es j → Encodes ts done Ds → AnswersAll ts Ds (judgeArms fs es (map (slotTypes A) (armsFrom rule arm)) w at Γ) es at j (ArmsNoted ts fs (now (notes .exit)) es at (map (slotTypes A) (armsFrom rule arm)) Γ ps (scope .over)) (now (notes .entry)) (now (notes .exit)) r) ⌝ }
 {
     if arm >= rule.arms {
-        return Ok(Several { row: done, mask: 0, twice: 0, end: at });
+        return Ok(Several {
+            row: done,
+            mask: 0,
+            twice: 0,
+            end: at,
+        });
     }
     let bound = slot_codes(listing, code, rule.binds[arm]);
     let inner = extend_all(listing, scope, bound);
@@ -184,7 +223,12 @@ fn judge_arms(listing: &Listing, rule: Rule, code: u8, arm: usize, at: usize, sc
 }
 
 // Judges a body whose outermost expression has the number `at`, over its parameters' words; answers the number of the expression after it.
-fn judge_body(listing: &Listing, signature: Signature, at: usize, notes: &mut [Note]) -> Result<usize, Fault>
+fn judge_body(
+    listing: &Listing,
+    signature: Signature,
+    at: usize,
+    notes: &mut [Note],
+) -> Result<usize, Fault>
     requires long { ⌜ length (now notes) ≡ 512 ⌝ }
     requires posed { ⌜ PosedBody (now listing) signature at ⌝ }
     ensures { λ r. ⌜ ((ts : List Ty) (fs : List Fun) (g : Fun) (j : ℕ) → PosesBody (now (listing .entry)) signature at ts fs g j → AnswersBody ts fs g at j (now (notes .entry)) (now (notes .exit)) r) ⌝ }
@@ -194,7 +238,7 @@ fn judge_body(listing: &Listing, signature: Signature, at: usize, notes: &mut [N
     let found = judge(listing, at, scope, notes)?;
     let result = code_of(listing, signature.result);
     if found.code != result {
-        return Err(Fault { refusal: Refusal::TypeFault, place: at, part: Part::Judgement });
+        return Err(fault(Refusal::TypeFault, at));
     }
     Ok(found.end)
 }
@@ -217,12 +261,20 @@ fn judge_bodies(listing: &Listing, notes: &mut [Note], starts: &mut [usize]) -> 
 }
 
 // Judges a table that was read.
-pub fn judge_listing(listing: Listing) -> Result<Table, Fault>
+pub(crate) fn judge_listing(listing: Listing) -> Result<Table, Fault>
     requires { ⌜ ((p : Program) × Holds listing p) ⌝ }
     ensures { λ r. ⌜ ((p : Program) → Holds listing p → AnswersListing p r) ⌝ }
 {
-    let mut notes = [Note { code: 0, end: 0, place: 0 }; 512];
+    let mut notes = [Note {
+        code: 0,
+        end: 0,
+        place: 0,
+    }; 512];
     let mut starts = [0; 32];
     judge_bodies(&listing, &mut notes, &mut starts)?;
-    Ok(Table { listing, notes, starts })
+    Ok(Table {
+        listing,
+        notes,
+        starts,
+    })
 }

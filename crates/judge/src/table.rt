@@ -1,4 +1,4 @@
-ghost use Prim.Native.Nat.{ℕ, _<_};
+ghost use Prim.Native.Nat.{_%_};
 ghost use lib.ListN.{getD};
 ghost use mathlib.Core.Path.{_≡_};
 use tables::listing::Listing;
@@ -19,4 +19,27 @@ pub struct Table {
     pub(crate) listing: Listing,
     pub(crate) notes: [Note; 512],
     pub(crate) starts: [usize; 32],
+}
+
+impl Table {
+    // What was read.
+    pub fn listing(&self) -> &Listing
+        ensures { λ r. ⌜ now r ≡ now (self .entry) .listing ⌝ }
+    {
+        &self.listing
+    }
+
+    // The note at an expression; expressions are numbered below 512.
+    pub fn note(&self, at: usize) -> Note
+        ensures { λ r. ⌜ r ≡ getD (now (self .entry) .notes) (at % 512) r ⌝ }
+    {
+        self.notes[at % 512]
+    }
+
+    // The number of a body's outermost expression; functions are numbered below 32.
+    pub fn start(&self, function: usize) -> usize
+        ensures { λ r. ⌜ r ≡ getD (now (self .entry) .starts) (function % 32) r ⌝ }
+    {
+        self.starts[function % 32]
+    }
 }

@@ -1,27 +1,31 @@
 -- The steps of reading expressions.
-use mathlib.Core.List.{List, [], _∷_, _++_, map, append-assoc}
+use mathlib.Core.List.{List, [], _∷_, _++_, map}
 use mathlib.Core.Path.{_≡_, refl, sym, ap, ap₂, _∙_, subst}
 use mathlib.Core.Bool.{Bool, true, false, cond}
+use mathlib.Core.Logic.{_⊎_, inl, inr}
 use Prim.Native.Nat.{ℕ, zero, suc, _+_, _-_, _≤_, _<_}
 use native.Mathlib.Omega.{arith}
 use lib.Dec.{leb, ltb}
-use lib.ListN.{getD, length, take, drop, set, replicate, length-map, length-set}
+use lib.ListN.{getD, length, drop, replicate, length-map}
 use denote.Ref.{now}
 use Rattle.std.specs.declared.result.Result.{Result}
 use Rattle.std.specs.declared.result.Result.the-variants.{Ok, Err}
+use Rattle.std.specs.declared.option.Option.{Option}
+use Rattle.std.specs.declared.option.Option.the-variants.{Some, None}
 use Rattle.std.specs.Vec.{made as ok}
 use Rattle.std.proofs.shelf.Lists.{drop-more, drop-all, getD-map, getD-past, getD-take, getD-append-left}
-use Rattle.std.proofs.shelf.Tests.{lt-ltb, le-ltb, le-leb, lt-leb}
+use Rattle.std.proofs.shelf.Tests.{cases-lt, lt-ltb, le-ltb, le-leb, lt-leb}
 use Rattle.codec.specs.Reading.{Scan, done, refused, then as followed, withinAt, Takes}
 use Rattle.codec.specs.declared.cursor.Cursor.{Cursor}
 use Rattle.codec.specs.declared.fault.Fault.{Fault}
+use Rattle.codec.specs.declared.fault.Refusal.{Refusal}
 use Rattle.codec.specs.declared.fault.Refusal.the-variants.{TooManyExpressions, TooManyVariables}
-use Rattle.codec.proofs.Takings.{takes-as, takes-done, takes-fault}
-use Rattle.lfpl.specs.Syntax.{Ty, Head, guard, Expr, Exprs, expr, end, _then_, size, sizes}
-use Rattle.lfpl.specs.Reading.{Reader, _>>=_, pure, below, demand, Names, shape, heads, headAt, eachAt, exprAt}
+use Rattle.codec.proofs.Takings.{takes-as, takes-done}
+use Rattle.lfpl.specs.Syntax.{Ty, Head, guard, _then_}
+use Rattle.lfpl.specs.Reading.{Reader, _>>=_, pure, below, demand, Names, shape, heads, headAt}
 use Rattle.lfpl.specs.Typing.{typeAt}
-use Rattle.tables.specs.Inner.{Few, Gives, operandOf, armsOf, shapeOf, Named, operandAt, Ranges, kindAt, Begins, inner, toCome, waiting}
-use Rattle.tables.specs.Listed.{headBy, headOf, InRange, Stands, stands, All-stand, all-end, all-more}
+use Rattle.tables.specs.Inner.{Few, Gives, operandOf, armsOf, shapeOf, Named, operandAt, Ranges, kindAt, Begins, hindered, inner, toCome, waiting}
+use Rattle.tables.specs.Listed.{headBy, headOf, InRange}
 use Rattle.tables.specs.declared.expressions.Open.{Open}
 use Rattle.tables.specs.declared.expressions.Operand as O
 use Rattle.tables.specs.declared.expressions.Operand.the-variants as Operand
@@ -29,7 +33,7 @@ use Rattle.tables.specs.declared.listing.Kind as K
 use Rattle.tables.specs.declared.listing.Kind.the-variants as Kind
 use Rattle.tables.specs.declared.listing.Node.{Node}
 use Rattle.tables.specs.declared.listing.Signature.{Signature}
-use Rattle.tables.proofs.Givings.{then-assoc, then-eq, on, break}
+use Rattle.tables.proofs.Givings.{then-assoc, on, break}
 
 -- ---- the number of an expression
 
@@ -88,16 +92,15 @@ module _ (ns : Names) (scope k : ℕ) (o : O.Operand) {c c₁ : Cursor} (t : Tak
   after-kind : (c₂ : Cursor) (r : Result Head Fault) → Takes (operandAt ns scope o >>= numbered ns (kindNumbered k)) c₁ r c₂ → Takes (kindAt ns scope) c r c₂
   after-kind c₂ r u =
       on (below 16) (λ k. getD (heads ns scope) k (pure guard)) k t c₂ r
-        (takes-as (operandAt ns scope o >>= numbered ns (kindNumbered k)) (getD (heads ns scope) k (pure guard))
-          (heads-are ns scope (now (c₁ .bytes)) (c₁ .at) k h ∙ ap (λ o. (operandAt ns scope o >>= numbered ns (kindNumbered k)) (now (c₁ .bytes)) (c₁ .at)) (sym d)) u)
+      (takes-as (operandAt ns scope o >>= numbered ns (kindNumbered k)) (getD (heads ns scope) k (pure guard))
+      (heads-are ns scope (now (c₁ .bytes)) (c₁ .at) k h ∙ ap (λ o. (operandAt ns scope o >>= numbered ns (kindNumbered k)) (now (c₁ .bytes)) (c₁ .at)) (sym d)) u)
 
   pub node-breaks : (c₂ : Cursor) (e : Fault) → Takes (operandAt ns scope o) c₁ (Err e) c₂ → Takes (kindAt ns scope) c (Err e) c₂
   node-breaks c₂ e u = after-kind c₂ (Err e) (break (operandAt ns scope o) (numbered ns (kindNumbered k)) e u)
 
   pub node-read : (c₂ : Cursor) (v : ℕ) → Gives (operandAt ns scope o) (λ v w. (v ≡ w) × Ranges ns scope o v) c₁ (Ok v) c₂ → Gives (kindAt ns scope) (Begins ns scope) c (Ok (record { kind = kindNumbered k; number = v })) c₂
   node-read c₂ v g =
-      let x = headBy (kindNumbered k) (ns .types) (g .0) in
-      (
+      let x = headBy (kindNumbered k) (ns .types) (g .0) in (
         x,
         after-kind c₂ (Ok x) (on (operandAt ns scope o) (numbered ns (kindNumbered k)) (g .0) (g .1) c₂ (Ok x) (takes-done (numbered ns (kindNumbered k) (g .0)) c₂ x refl)),
         record { head = ap (headBy (kindNumbered k) (ns .types)) (sym (g .2 .0)); range = in-range (kindNumbered k) ns scope v (subst (λ o. Ranges ns scope o v) d (g .2 .1)) },
@@ -117,14 +120,43 @@ module _ (ns : Names) (left scope : ℕ) (bs : List ℕ) (p : ℕ) where
       cases true false = refl
       cases false b = refl
 
-  pub begin-scope : 32 < scope → headAt ns left scope bs p ≡ refused TooManyVariables p
+  begin-scope : 32 < scope → headAt ns left scope bs p ≡ refused TooManyVariables p
   begin-scope h = begin-is false (ltb 0 left) (lt-leb scope 32 h) refl
 
-  pub begin-crowded : scope ≤ 32 → left ≡ 0 → headAt ns left scope bs p ≡ refused TooManyExpressions p
+  begin-crowded : scope ≤ 32 → left ≡ 0 → headAt ns left scope bs p ≡ refused TooManyExpressions p
   begin-crowded h e = begin-is true false (le-leb scope 32 h) (le-ltb 0 left (omega arith))
 
   pub begin-node : scope ≤ 32 → 0 < left → headAt ns left scope bs p ≡ kindAt ns scope bs p
   begin-node h e = begin-is true true (le-leb scope 32 h) (lt-ltb 0 left e)
+
+-- what hinders an expression that begins after `count` others in a scope of so many variables
+tested : (scope count : ℕ) (a b : Bool) → ltb 32 scope ≡ a → leb 512 count ≡ b → hindered scope count ≡ cond a (Some TooManyVariables) (cond b (Some TooManyExpressions) None)
+tested scope count a b d e = ap₂ (λ a b. cond a (Some TooManyVariables) (cond b (Some TooManyExpressions) None)) d e
+
+pub begin-hindered : (ns : Names) (scope count : ℕ) (bs : List ℕ) (p : ℕ) (why : Refusal) → Some why ≡ hindered scope count → headAt ns (512 - count) scope bs p ≡ refused why p
+begin-hindered ns scope count bs p why e = go (cases-lt 32 scope) (cases-lt count 512)
+  where
+    same : (v : Refusal) → _≡_ {A = Option Refusal} (Some why) (Some v) → _≡_ {A = Scan Head} (refused v p) (refused why p)
+    same v e = cc
+
+    never : _≡_ {A = Option Refusal} (Some why) None → ⊥
+    never e = let z : _≡_ {A = ℕ} 0 1 = cc in omega arith
+
+    go : (32 < scope) ⊎ (scope ≤ 32) → (count < 512) ⊎ (512 ≤ count) → headAt ns (512 - count) scope bs p ≡ refused why p
+    go (inl h) l = begin-scope ns (512 - count) scope bs p h ∙ same TooManyVariables (e ∙ tested scope count true (leb 512 count) (lt-ltb 32 scope h) refl)
+    go (inr h) (inl l) = absurd (never (e ∙ tested scope count false false (le-ltb 32 scope h) (lt-leb 512 count l)))
+    go (inr h) (inr l) = begin-crowded ns (512 - count) scope bs p h (omega arith) ∙ same TooManyExpressions (e ∙ tested scope count false true (le-ltb 32 scope h) (le-leb 512 count l))
+
+pub unhindered : (scope count : ℕ) → None ≡ hindered scope count → (scope ≤ 32) × (count < 512)
+unhindered scope count e = go (cases-lt 32 scope) (cases-lt count 512)
+  where
+    never : (v : Refusal) → _≡_ {A = Option Refusal} None (Some v) → ⊥
+    never v e = let z : _≡_ {A = ℕ} 0 1 = cc in omega arith
+
+    go : (32 < scope) ⊎ (scope ≤ 32) → (count < 512) ⊎ (512 ≤ count) → (scope ≤ 32) × (count < 512)
+    go (inl h) l = absurd (never TooManyVariables (e ∙ tested scope count true (leb 512 count) (lt-ltb 32 scope h) refl))
+    go (inr h) (inl l) = (h, l)
+    go (inr h) (inr l) = absurd (never TooManyExpressions (e ∙ tested scope count false true (le-ltb 32 scope h) (le-leb 512 count l)))
 
 -- where no expression is allowed, none begins
 pub never-begins : {Y : Type 0} (ns : Names) (n : ℕ) (bs : List ℕ) (p : ℕ) (f g : Head → ℕ → Scan Y) → followed (headAt ns 0 n bs p) f ≡ followed (headAt ns 0 n bs p) g
@@ -132,6 +164,7 @@ never-begins ns n bs p f g = ap (λ s. followed s f) z ∙ go (leb n 32) ∙ sym
   where
     z : headAt ns 0 n bs p ≡ cond (leb n 32) (refused TooManyExpressions p) (refused TooManyVariables p)
     z = begin-is ns 0 n bs p (leb n 32) false refl (le-ltb 0 0 (omega arith))
+
     go : (b : Bool) → followed (cond b (refused TooManyExpressions p) (refused TooManyVariables p)) f ≡ followed (cond b (refused TooManyExpressions p) (refused TooManyVariables p)) g
     go true = refl
     go false = refl
@@ -203,6 +236,7 @@ next-arm s n k a v e l f =
   where
     two : a < 2
     two = omega (arith, few-arms k)
+
     binds-are : getD (shapeOf k .binds) a 0 ≡ getD (armsOf k) a 0
     binds-are = getD-take 2 (armsOf k ++ 0 ∷ 0 ∷ []) a 0 two ∙ getD-append-left (armsOf k) (0 ∷ 0 ∷ []) 0 a l
 

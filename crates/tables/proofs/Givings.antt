@@ -1,7 +1,6 @@
 -- How readings into the flat table follow one another.
 use mathlib.Core.List.{List}
-use mathlib.Core.Path.{_≡_, refl, sym, ap, _∙_}
-use mathlib.Core.Bool.{Bool, true, false, cond}
+use mathlib.Core.Path.{_≡_, refl}
 use Prim.Native.Nat.{ℕ}
 use denote.Ref.{now}
 use Rattle.std.specs.declared.result.Result.{Result}
@@ -9,9 +8,8 @@ use Rattle.std.specs.declared.result.Result.the-variants.{Ok, Err}
 use Rattle.codec.specs.Reading.{Scan, done, refused, then, Takes}
 use Rattle.codec.specs.declared.cursor.Cursor.{Cursor}
 use Rattle.codec.specs.declared.fault.Fault.{Fault}
-use Rattle.codec.specs.declared.fault.Refusal.{Refusal}
-use Rattle.codec.proofs.Takings.{takes-on, takes-break, takes-as, takes-done, takes-fault}
-use Rattle.lfpl.specs.Reading.{Reader, _>>=_, _>>_, pure, demand}
+use Rattle.codec.proofs.Takings.{takes-on, takes-break, takes-as}
+use Rattle.lfpl.specs.Reading.{Reader, _>>=_}
 use Rattle.tables.specs.Inner.{Gives}
 
 -- ---- readings as such
@@ -28,13 +26,6 @@ pub then-pure : {X : Type 0} (r : Scan X) → then r (λ x p. done x p) ≡ r
 then-pure (done x p) = refl
 then-pure (refused why q) = refl
 
--- a test that is passed or failed
-pub demand-passes : {b : Bool} (why : Refusal) (place : ℕ) (bs : List ℕ) (p : ℕ) → b ≡ true → demand b why place bs p ≡ done tt p
-demand-passes why place bs p e = ap (λ b. demand b why place bs p) e
-
-pub demand-fails : {b : Bool} (why : Refusal) (place : ℕ) (bs : List ℕ) (p : ℕ) → b ≡ false → demand b why place bs p ≡ refused why place
-demand-fails why place bs p e = ap (λ b. demand b why place bs p) e
-
 -- ---- calls that read
 
 module _ {X Y : Type 0} (f : Reader X) (k : X → Reader Y) {c c′ : Cursor} where
@@ -43,10 +34,6 @@ module _ {X Y : Type 0} (f : Reader X) (k : X → Reader Y) {c c′ : Cursor} wh
 
   pub on : (x : X) → Takes f c (Ok x) c′ → (c″ : Cursor) (r : Result Y Fault) → Takes (k x) c′ r c″ → Takes (f >>= k) c r c″
   on x t c″ r u = takes-on f (f >>= k) k c refl c′ x t c″ r u
-
-  pub gives-on : {W : Type 0} (S : W → Y → Type 0) (x : X) → Takes f c (Ok x) c′ → (c″ : Cursor) (r : Result W Fault) → Gives (k x) S c′ r c″ → Gives (f >>= k) S c r c″
-  gives-on S x t c″ (Ok w) g = (g .0, on x t c″ (Ok (g .0)) (g .1), g .2)
-  gives-on S x t c″ (Err e) g = on x t c″ (Err e) g
 
 -- the same reading under another name
 pub gives-as : {X Y : Type 0} (f g : Reader Y) (R : X → Y → Type 0) (c c′ : Cursor) (r : Result X Fault) → ((bs : List ℕ) (p : ℕ) → g bs p ≡ f bs p) → Gives f R c r c′ → Gives g R c r c′

@@ -4,18 +4,17 @@ use mathlib.Core.Path.{_≡_, refl, sym, ap, ap₂, _∙_, subst}
 use Prim.Native.Nat.{ℕ, zero, suc, _+_, _-_, _≤_, _<_}
 use native.Mathlib.Omega.{arith}
 use denote.Ref.{now}
-use lib.ListN.{getD, length, take, set, replicate, length-append, length-take, length-set}
-use Rattle.std.specs.declared.result.Result.{Result}
+use lib.ListN.{getD, length, take, set, replicate, length-append, length-take}
 use Rattle.std.specs.declared.result.Result.the-variants.{Ok, Err}
 use Rattle.std.proofs.shelf.Lists.{getD-at, take-more-set}
-use Rattle.codec.specs.Reading.{Scan, done, refused, then as followed, Takes, Answered}
+use Rattle.codec.specs.Reading.{Scan, done, then as followed, Takes, Answered}
 use Rattle.codec.specs.declared.cursor.Cursor.{Cursor}
 use Rattle.codec.specs.declared.fault.Fault.{Fault}
 use Rattle.codec.proofs.Takings.{is-done, is-refused, refused-answers}
 use Rattle.lfpl.specs.Syntax.{Head, Expr, Exprs, expr, end, _then_, size, sizes}
 use Rattle.lfpl.specs.Reading.{Reader, Names, shape, headAt, eachAt, exprAt}
 use Rattle.tables.specs.Inner.{Gives, Begins, inner}
-use Rattle.tables.specs.Listed.{headOf, InRange, Stands, stands, All-stand, all-end, all-more}
+use Rattle.tables.specs.Listed.{headOf, stands, All-stand, all-end, all-more}
 use Rattle.tables.specs.declared.listing.Node.{Node}
 use Rattle.tables.proofs.Givings.{then-assoc, then-eq, then-pure}
 use Rattle.tables.proofs.Expressed.{never-begins}
@@ -53,12 +52,12 @@ module _ (ns : Names) (bs : List ℕ) where
   each-split r (m ∷ ms) w left p K =
       then-assoc (r left m bs p) _ _
       ∙ then-eq (r left m bs p) _ _ (λ e q.
-          then-assoc (eachAt ns r (left - size e) (ms ++ w) bs q) _ _
-          ∙ each-split r ms w (left - size e) q (λ ps qs. K (e then ps) qs)
-          ∙ then-eq (eachAt ns r (left - size e) ms bs q) _ _ (λ ps q′.
-              let z : left - size e - sizes ps ≡ left - (size e + sizes ps) = omega arith in
-              ap (λ l. followed (eachAt ns r l w bs q′) (λ qs q″. K (e then ps) qs q″)) z)
-          ∙ sym (then-assoc (eachAt ns r (left - size e) ms bs q) _ _))
+      then-assoc (eachAt ns r (left - size e) (ms ++ w) bs q) _ _
+      ∙ each-split r ms w (left - size e) q (λ ps qs. K (e then ps) qs)
+      ∙ then-eq (eachAt ns r (left - size e) ms bs q) _ _ (λ ps q′.
+      let z : left - size e - sizes ps ≡ left - (size e + sizes ps) = omega arith in
+      ap (λ l. followed (eachAt ns r l w bs q′) (λ qs q″. K (e then ps) qs q″)) z)
+      ∙ sym (then-assoc (eachAt ns r (left - size e) ms bs q) _ _))
       ∙ sym (then-assoc (r left m bs p) _ _)
 
   each-same : (r s : ℕ → ℕ → Reader Expr) (k : ℕ) → ((left n p : ℕ) → left < k → r left n bs p ≡ s left n bs p) → (ms : List ℕ) (left p : ℕ) → left < k
@@ -78,10 +77,10 @@ module _ (ns : Names) (bs : List ℕ) where
   depth (suc j) (suc k) (suc left) n p a b =
       let same : (l n p : ℕ) → l < suc left → exprAt ns j l n bs p ≡ exprAt ns k l n bs p = λ l n p h. depth j k l n p (omega arith) (omega arith) in
       then-eq (headAt ns (suc left) n bs p) _ _ (λ h q.
-        ap (λ x. followed x (λ ps q′. followed (eachAt ns (exprAt ns j) (suc left - 1 - sizes ps) (arms ns h n) bs q′) (λ qs q″. done (expr h ps qs) q″)))
-          (each-same (exprAt ns j) (exprAt ns k) (suc left) same (parts ns h n) (suc left - 1) q (omega arith))
-        ∙ then-eq (eachAt ns (exprAt ns k) (suc left - 1) (parts ns h n) bs q) _ _ (λ ps q′.
-            ap (λ x. followed x (λ qs q″. done (expr h ps qs) q″)) (each-same (exprAt ns j) (exprAt ns k) (suc left) same (arms ns h n) (suc left - 1 - sizes ps) q′ (omega arith))))
+      ap (λ x. followed x (λ ps q′. followed (eachAt ns (exprAt ns j) (suc left - 1 - sizes ps) (arms ns h n) bs q′) (λ qs q″. done (expr h ps qs) q″)))
+      (each-same (exprAt ns j) (exprAt ns k) (suc left) same (parts ns h n) (suc left - 1) q (omega arith))
+      ∙ then-eq (eachAt ns (exprAt ns k) (suc left - 1) (parts ns h n) bs q) _ _ (λ ps q′.
+      ap (λ x. followed x (λ qs q″. done (expr h ps qs) q″)) (each-same (exprAt ns j) (exprAt ns k) (suc left) same (arms ns h n) (suc left - 1 - sizes ps) q′ (omega arith))))
 
   -- an expression and those after it, as the reading of one unfolds
   abbrev unfolded : ℕ → ℕ → ℕ → List ℕ → Head → ℕ → Scan Exprs
@@ -94,8 +93,8 @@ module _ (ns : Names) (bs : List ℕ) where
   unfolds k left n w p =
       then-assoc (headAt ns left n bs p) _ _
       ∙ then-eq (headAt ns left n bs p) _ _ (λ h q.
-          then-assoc (eachAt ns (exprAt ns k) (left - 1) (parts ns h n) bs q) _ _
-          ∙ then-eq (eachAt ns (exprAt ns k) (left - 1) (parts ns h n) bs q) _ _ (λ ps q₁. then-assoc (eachAt ns (exprAt ns k) (left - 1 - sizes ps) (arms ns h n) bs q₁) _ _))
+      then-assoc (eachAt ns (exprAt ns k) (left - 1) (parts ns h n) bs q) _ _
+      ∙ then-eq (eachAt ns (exprAt ns k) (left - 1) (parts ns h n) bs q) _ _ (λ ps q₁. then-assoc (eachAt ns (exprAt ns k) (left - 1 - sizes ps) (arms ns h n) bs q₁) _ _))
 
   -- the same, read in a row and grouped afterwards
   abbrev row : ℕ → ℕ → ℕ → List ℕ → Head → ℕ → Scan Exprs
@@ -105,16 +104,16 @@ module _ (ns : Names) (bs : List ℕ) where
   in-a-row k left n w h q l =
       let same : (l n p : ℕ) → l < suc left → exprAt ns k l n bs p ≡ exprAt ns (suc k) l n bs p = λ m n p h. depth k (suc k) m n p (omega arith) (omega arith) in
       ap (λ x. followed x (λ ps q₁.
-          followed (eachAt ns (exprAt ns k) (suc left - 1 - sizes ps) (arms ns h n) bs q₁) (λ qs q₂.
-          followed (eachAt ns (exprAt ns (suc k)) (suc left - size (expr h ps qs)) w bs q₂) (λ fs q₃. done (expr h ps qs then fs) q₃))))
-        (each-same (exprAt ns k) (exprAt ns (suc k)) (suc left) same (parts ns h n) (suc left - 1) q (omega arith))
+      followed (eachAt ns (exprAt ns k) (suc left - 1 - sizes ps) (arms ns h n) bs q₁) (λ qs q₂.
+      followed (eachAt ns (exprAt ns (suc k)) (suc left - size (expr h ps qs)) w bs q₂) (λ fs q₃. done (expr h ps qs then fs) q₃))))
+      (each-same (exprAt ns k) (exprAt ns (suc k)) (suc left) same (parts ns h n) (suc left - 1) q (omega arith))
       ∙ then-eq (eachAt ns (exprAt ns (suc k)) (suc left - 1) (parts ns h n) bs q) _ _ (λ ps q₁.
-          ap (λ x. followed x (λ qs q₂. followed (eachAt ns (exprAt ns (suc k)) (suc left - size (expr h ps qs)) w bs q₂) (λ fs q₃. done (expr h ps qs then fs) q₃)))
-            (each-same (exprAt ns k) (exprAt ns (suc k)) (suc left) same (arms ns h n) (suc left - 1 - sizes ps) q₁ (omega arith))
-          ∙ then-eq (eachAt ns (exprAt ns (suc k)) (suc left - 1 - sizes ps) (arms ns h n) bs q₁) _ _ (λ qs q₂.
-              let z : suc left - size (expr h ps qs) ≡ suc left - 1 - sizes ps - sizes qs = omega arith in
-              ap (λ m. followed (eachAt ns (exprAt ns (suc k)) m w bs q₂) (λ fs q₃. done (expr h ps qs then fs) q₃)) z)
-          ∙ sym (each-split (exprAt ns (suc k)) (arms ns h n) w (suc left - 1 - sizes ps) q₁ (λ qs fs q₃. done (expr h ps qs then fs) q₃)))
+      ap (λ x. followed x (λ qs q₂. followed (eachAt ns (exprAt ns (suc k)) (suc left - size (expr h ps qs)) w bs q₂) (λ fs q₃. done (expr h ps qs then fs) q₃)))
+      (each-same (exprAt ns k) (exprAt ns (suc k)) (suc left) same (arms ns h n) (suc left - 1 - sizes ps) q₁ (omega arith))
+      ∙ then-eq (eachAt ns (exprAt ns (suc k)) (suc left - 1 - sizes ps) (arms ns h n) bs q₁) _ _ (λ qs q₂.
+      let z : suc left - size (expr h ps qs) ≡ suc left - 1 - sizes ps - sizes qs = omega arith in
+      ap (λ m. followed (eachAt ns (exprAt ns (suc k)) m w bs q₂) (λ fs q₃. done (expr h ps qs then fs) q₃)) z)
+      ∙ sym (each-split (exprAt ns (suc k)) (arms ns h n) w (suc left - 1 - sizes ps) q₁ (λ qs fs q₃. done (expr h ps qs then fs) q₃)))
       ∙ sym (each-split (exprAt ns (suc k)) (parts ns h n) (arms ns h n ++ w) (suc left - 1) q (λ ps fs q₃. done (expr h ps (firsts (arms ns h n) fs) then rests (arms ns h n) fs) q₃))
       ∙ ap (λ m. followed (eachAt ns (exprAt ns (suc k)) (suc left - 1) m bs q) (λ es q′. done (regroup ns h n es) q′)) (sym (append-assoc (parts ns h n) (arms ns h n) w))
 
@@ -200,9 +199,9 @@ module _ (ns : Names) (b : Cursor) (count : ℕ) (nodes : List Node) (n : ℕ) (
             let t : count ≡ length (take count nodes) = omega (arith, length-take count nodes) in
             let a = length-append (take count nodes) (x ∷ ys) in
             subst (λ xs. All-stand ns xs (ns .arities) 0 (u .build (regroup ns h n es)) k) (sym e)
-              (u .stand (x ∷ ys) (regroup ns h n es) k
-                (regroup-stands ns (take count nodes ++ x ∷ ys) n w count x h es k (omega (arith, a, t)) (λ y. getD-at (take count nodes) x ys y count (sym t)) m (g .2)
-                  (subst (λ k′. All-stand ns (take count nodes ++ x ∷ ys) (inner (ns .arities) k′ n ++ w) (count + 1) es k) (sym (g .2 .head)) (subst (λ xs. All-stand ns xs (inner (ns .arities) (headOf (ns .types) x) n ++ w) (count + 1) es k) e s))));
+            (u .stand (x ∷ ys) (regroup ns h n es) k
+            (regroup-stands ns (take count nodes ++ x ∷ ys) n w count x h es k (omega (arith, a, t)) (λ y. getD-at (take count nodes) x ys y count (sym t)) m (g .2)
+            (subst (λ k′. All-stand ns (take count nodes ++ x ∷ ys) (inner (ns .arities) k′ n ++ w) (count + 1) es k) (sym (g .2 .head)) (subst (λ xs. All-stand ns xs (inner (ns .arities) (headOf (ns .types) x) n ++ w) (count + 1) es k) e s))));
         bytes = g .1 .bytes ∙ u .bytes;
         part = g .1 .part ∙ u .part;
       }
@@ -211,13 +210,12 @@ module _ (ns : Names) (b : Cursor) (count : ℕ) (nodes : List Node) (n : ℕ) (
 pub underway-ends : (ns : Names) (b : Cursor) (count : ℕ) (nodes : List Node) (c : Cursor) → Underway ns b count nodes [] c → length nodes ≡ 512 → count ≤ 512
     → Gives (eachAt ns (exprAt ns 513) 512 (ns .arities)) (λ n es. All-stand ns (take n nodes) (ns .arities) 0 es n) b (Ok count) c
 unfolding eachAt
-underway-ends ns b count nodes c u long few =
-    (
-      u .build end,
-      record { bytes = u .bytes; part = u .part; answer = subst (λ s. Answered s (b .part) (Ok (u .build end)) (c .at)) (sym (u .same)) (refl, refl) },
-      subst (λ xs. All-stand ns xs (ns .arities) 0 (u .build end) count) (append-nil (take count nodes))
-        (u .stand [] end count (all-end count (omega (arith, length-append (take count nodes) (nothing Node), length-take count nodes)))),
-    )
+underway-ends ns b count nodes c u long few = (
+  u .build end,
+  record { bytes = u .bytes; part = u .part; answer = subst (λ s. Answered s (b .part) (Ok (u .build end)) (c .at)) (sym (u .same)) (refl, refl) },
+  subst (λ xs. All-stand ns xs (ns .arities) 0 (u .build end) count) (append-nil (take count nodes))
+      (u .stand [] end count (all-end count (omega (arith, length-append (take count nodes) (nothing Node), length-take count nodes)))),
+)
   where
     nothing : (X : Type 0) → List X
     nothing X = []

@@ -1,20 +1,18 @@
 -- The steps of reading signatures.
 use mathlib.Core.List.{List, [], _∷_, _++_, map}
 use mathlib.Core.Path.{_≡_, refl, sym, ap, ap₂, _∙_, subst}
-use Prim.Native.Nat.{ℕ, zero, suc, _+_, _≤_, _<_}
+use Prim.Native.Nat.{ℕ, _+_, _≤_, _<_}
 use native.Mathlib.Omega.{arith}
-use denote.Ref.{now}
-use lib.ListN.{getD, length, take, set, length-take, length-map}
+use lib.ListN.{length, take, set, length-take, length-map}
 use Rattle.std.proofs.shelf.Lists.{take-more-set}
-use Rattle.std.specs.declared.result.Result.{Result}
 use Rattle.std.specs.declared.result.Result.the-variants.{Ok, Err}
-use Rattle.codec.specs.Reading.{Scan, done, then, withinAt, manyAt, Takes}
+use Rattle.codec.specs.Reading.{Scan, then, withinAt, manyAt, Takes}
 use Rattle.codec.specs.declared.cursor.Cursor.{Cursor}
 use Rattle.codec.specs.declared.fault.Fault.{Fault}
-use Rattle.codec.proofs.Takings.{all, takes-done, takes-as}
+use Rattle.codec.proofs.Takings.{all, takes-done}
 use Rattle.lfpl.specs.Syntax.{Ty}
 use Rattle.lfpl.specs.Typing.{typeAt}
-use Rattle.lfpl.specs.Reading.{Reader, _>>=_, pure, below, typeRef, Signature as TypeOf, signatureAt, signaturesAt, arity}
+use Rattle.lfpl.specs.Reading.{_>>=_, Reader, pure, below, typeRef, Signature as TypeOf, signatureAt, signaturesAt, arity}
 use Rattle.tables.specs.Inner.{parametersAt, Numbered, Few}
 use Rattle.tables.specs.Listed.{Numbers, Signs, AllSign}
 use Rattle.tables.specs.declared.listing.Signature.{Signature}
@@ -38,6 +36,7 @@ numbered-push ts ns As j k h = (all-below ns (k .0), ap (λ l. l ++ typeAt ts j 
     all-below : (ns : List ℕ) → Numbers ts ns → Numbers ts (ns ++ j ∷ [])
     all-below [] k = (h, tt)
     all-below (n ∷ ns) k = (k .0, all-below ns (k .1))
+
     map-push : (ns : List ℕ) → map (typeAt ts) (ns ++ j ∷ []) ≡ map (typeAt ts) ns ++ typeAt ts j ∷ []
     map-push [] = refl
     map-push (n ∷ ns) = ap (λ l. typeAt ts n ∷ l) (map-push ns)

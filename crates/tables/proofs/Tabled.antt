@@ -1,8 +1,8 @@
 -- The steps of reading a table.
-use mathlib.Core.List.{List, [], _∷_, map}
-use mathlib.Core.Path.{_≡_, refl, sym, ap, ap₂, _∙_, subst}
+use mathlib.Core.List.{List, map}
+use mathlib.Core.Path.{_≡_, refl, sym, ap, ap₂, _∙_}
 use mathlib.Core.Bool.{Bool, true, false, cond}
-use Prim.Native.Nat.{ℕ, _+_, _-_, _≤_, _<_}
+use Prim.Native.Nat.{ℕ, _-_, _≤_, _<_}
 use native.Mathlib.Omega.{arith}
 use lib.Dec.{ltb}
 use lib.ListN.{take, length, length-take}
@@ -10,7 +10,7 @@ use denote.Ref.{now}
 use Rattle.std.specs.declared.result.Result.{Result}
 use Rattle.std.specs.declared.result.Result.the-variants.{Ok, Err}
 use Rattle.std.proofs.shelf.Tests.{lt-ltb, le-ltb}
-use Rattle.codec.specs.Reading.{Scan, done, refused, then, Takes}
+use Rattle.codec.specs.Reading.{done, refused, then, Takes}
 use Rattle.codec.specs.declared.cursor.Cursor.{Cursor}
 use Rattle.codec.specs.declared.fault.Fault.{Fault}
 use Rattle.codec.specs.declared.fault.Part.the-variants.{Table}
@@ -19,7 +19,7 @@ use Rattle.codec.proofs.Takings.{is-done, is-refused, takes-break, takes-on, ta
 use Rattle.lfpl.specs.Syntax.{Ty, Exprs, Program}
 use Rattle.lfpl.specs.Reading.{Reader, _>>=_, _>>_, pure, Signature as TypeOf, arity, typesAt, signaturesAt, eachAt, exprAt, functionsOf, finished, tableAt, readTable}
 use Rattle.tables.specs.Inner.{Named}
-use Rattle.tables.specs.Listed.{Types, AllSign, All-stand, namesFor, Holds}
+use Rattle.tables.specs.Listed.{Types, AllSign, namesFor}
 use Rattle.tables.specs.declared.listing.Entry.{Entry}
 use Rattle.tables.specs.declared.listing.Signature.{Signature}
 use Rattle.tables.proofs.Givings.{break, on}

@@ -6,7 +6,7 @@ use mathlib.Core.Logic.{_⊎_, inl, inr}
 use Prim.Native.Nat.{ℕ, zero, suc, _+_, _-_, _≤_, _<_}
 use native.Mathlib.Omega.{arith}
 use denote.Ref.{now}
-use lib.Dec.{leb, ltb, eqb}
+use lib.Dec.{leb}
 use lib.ListN.{getD, length, drop, length-append}
 use Rattle.std.proofs.shelf.Lists.{drop-more, drop-all, getD-default, getD-past, getD-append-left, getD-push}
 use Rattle.std.proofs.shelf.Tests.{cases-lt, or-parts, and-parts, true≢false, le-leb, leb-true}
@@ -19,7 +19,7 @@ use Rattle.codec.specs.declared.fault.Refusal.the-variants.{EntryRepeated, TooW
 use Rattle.codec.proofs.Takings.{all, takes-as, takes-break, takes-done, takes-fault, takes-on}
 use Rattle.lfpl.specs.Syntax.{Ty, int, diamond, listOf, treeOf, pairOf, sumOf, width, heapFree, first, second, decided, sameTy, Ty-discrete}
 use Rattle.lfpl.specs.Typing.{typeAt}
-use Rattle.lfpl.specs.Reading.{Reader, _>>=_, _>>_, pure, demand, below, typeRef, forms, member, roomy, entryAt, typesAt, many}
+use Rattle.lfpl.specs.Reading.{_>>=_, _>>_, Reader, pure, demand, below, typeRef, forms, member, roomy, entryAt, typesAt}
 use Rattle.tables.specs.Inner.{Gives, referAt, Refers, formAt, Makes, Alike}
 use Rattle.tables.specs.Listed.{references, formed, noEntry, entryOf, Lists, Types}
 use Rattle.tables.specs.declared.listing.Entry.{Entry}
@@ -40,13 +40,12 @@ not-false false e = absurd (true≢false (sym e))
 
 pub refer-one : (wanted : Bool) (ts : List Ty) (count n : ℕ) {c c′ : Cursor} → wanted ≡ true → length ts ≡ count → Takes (withinAt 0 count) c (Ok n) c′ → n < count
     → Gives (referAt wanted ts) (Refers wanted ts) c (Ok n) c′
-refer-one wanted ts count n {c} {c′} w l t h =
-    (
-      typeAt ts n,
-      takes-as (typeRef ts) (referAt wanted ts) (ap (λ w. referAt w ts (now (c .bytes)) (c .at)) w)
-        (on (below (length ts)) (λ j. pure (typeAt ts j)) n (subst (λ m. Takes (withinAt 0 m) c (Ok n) c′) (sym l) t) c′ (Ok (typeAt ts n)) (takes-done (pure (typeAt ts n)) c′ (typeAt ts n) refl)),
-      λ _. (omega arith, refl),
-    )
+refer-one wanted ts count n {c} {c′} w l t h = (
+  typeAt ts n,
+  takes-as (typeRef ts) (referAt wanted ts) (ap (λ w. referAt w ts (now (c .bytes)) (c .at)) w)
+      (on (below (length ts)) (λ j. pure (typeAt ts j)) n (subst (λ m. Takes (withinAt 0 m) c (Ok n) c′) (sym l) t) c′ (Ok (typeAt ts n)) (takes-done (pure (typeAt ts n)) c′ (typeAt ts n) refl)),
+  λ _. (omega arith, refl),
+)
 
 -- ---- types by their forms
 
@@ -191,8 +190,8 @@ pub after-number : (ts : List Ty) (k n : ℕ) {c c′ : Cursor} → Takes (withi
     → Takes (partsAt n (formNumbered k) ts) c′ r c″ → Takes (formAt ts) c r c″
 after-number ts k n {c} {c′} t h e c″ r u =
     on (below 6) (λ k. getD (forms ts) k (pure int)) k t c″ r
-      (takes-as (partsAt n (formNumbered k) ts) (getD (forms ts) k (pure int))
-        (parts-are ts k h (now (c′ .bytes)) (c′ .at) ∙ ap (λ n. partsAt n (formNumbered k) ts (now (c′ .bytes)) (c′ .at)) (sym e)) u)
+    (takes-as (partsAt n (formNumbered k) ts) (getD (forms ts) k (pure int))
+    (parts-are ts k h (now (c′ .bytes)) (c′ .at) ∙ ap (λ n. partsAt n (formNumbered k) ts (now (c′ .bytes)) (c′ .at)) (sym e)) u)
 
 pub makes-of : (ts : List Ty) (f : F.Form) (n a b : ℕ) (A B : Ty) → n ≡ references f → Refers (leb 1 n) ts a A → Refers (leb 2 n) ts b B → Makes ts (record { form = f; first = a; second = b }) (formed f A B)
 makes-of ts f n a b A B e p q =

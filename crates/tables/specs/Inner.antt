@@ -1,9 +1,9 @@
 -- How the code reads: what the inner functions of the reader promise, told by the readings that define tables.
 use Prim.Native.Nat.{ℕ, _+_, _<_, _≤_}
 use mathlib.Core.List.{List, [], _∷_, _++_, map}
-use mathlib.Core.Bool.{Bool, true, cond, _&&_, _||_}
+use mathlib.Core.Bool.{Bool, true, cond}
 use mathlib.Core.Path.{_≡_}
-use lib.Dec.{eqb, leb, ltb}
+use lib.Dec.{leb, ltb}
 use lib.ListN.{length, getD, take, drop, replicate}
 use Rattle.std.specs.declared.option.Option.{Option}
 use Rattle.std.specs.declared.option.Option.the-variants.{Some, None}
@@ -12,13 +12,13 @@ use Rattle.std.specs.declared.result.Result.the-variants.{Ok, Err}
 use Rattle.codec.specs.Reading.{Takes, numberAt}
 use Rattle.codec.specs.declared.cursor.Cursor.{Cursor}
 use Rattle.codec.specs.declared.fault.Fault.{Fault}
+use Rattle.codec.specs.declared.fault.Refusal.{Refusal}
+use Rattle.codec.specs.declared.fault.Refusal.the-variants.{TooManyExpressions, TooManyVariables}
 use Rattle.lfpl.specs.Syntax.{Ty, int, Head, guard}
 use Rattle.lfpl.specs.Typing.{typeAt}
-use Rattle.lfpl.specs.Reading.{Reader, _>>=_, pure, below, many, typeRef, forms, Names, shape, heads}
+use Rattle.lfpl.specs.Reading.{_>>=_, Reader, pure, below, many, typeRef, forms, Names, shape, heads}
 use Rattle.tables.specs.Listed.{references, formed, Numbers, headBy, headOf, InRange}
 use Rattle.tables.specs.declared.listing.Entry.{Entry}
-use Rattle.tables.specs.declared.listing.Form as F
-use Rattle.tables.specs.declared.listing.Form.the-variants as Form
 use Rattle.tables.specs.declared.listing.Signature.{Signature}
 use Rattle.tables.specs.declared.expressions.Open.{Open}
 use Rattle.tables.specs.declared.expressions.Operand as O
@@ -136,6 +136,10 @@ abbrev pub kindAt : Names → ℕ → Reader Head
 kindAt ns scope = do
   k ← below 16
   getD (heads ns scope) k (pure guard)
+
+-- why an expression may not begin after `count` others in a scope of so many variables; the scope comes first
+abbrev pub hindered : ℕ → ℕ → Option Refusal
+hindered scope count = cond (ltb 32 scope) (Some TooManyVariables) (cond (leb 512 count) (Some TooManyExpressions) None)
 
 -- the node stands for the head, in a scope of so many variables
 pub record Begins (ns : Names) (scope : ℕ) (x : Node) (h : Head) : Type 0 where

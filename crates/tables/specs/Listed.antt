@@ -37,6 +37,7 @@ formed Form.Tree A B = treeOf A
 formed Form.Pair A B = pairOf A B
 formed Form.Sum A B = sumOf A B
 
+-- what stands past the last entry
 abbrev pub noEntry : Entry
 noEntry = record { form = Form.Number; first = 0; second = 0; width = 1; «heap_free» = true }
 
@@ -76,6 +77,7 @@ pub record Signs (ts : List Ty) (f : Signature) (s : TypeOf) : Type 0 where
   pub number : f .result < length ts
   pub result : s .result ≡ typeAt ts (f .result)
 
+-- the signatures are the function types, one for one
 abbrev pub AllSign : List Ty → List Signature → List TypeOf → Type 0
 AllSign ts [] [] = Unit {0}
 AllSign ts [] (s ∷ ss) = ⊥
@@ -103,6 +105,7 @@ headBy Kind.MakeLeaf ts t = mkLeaf (typeAt ts t)
 headBy Kind.MakeNode ts n = mkNode
 headBy Kind.CaseTree ts n = caseTree
 
+-- the head that a node stands for
 abbrev pub headOf : List Ty → Node → Head
 headOf ts x = headBy (x .kind) ts (x .number)
 
@@ -129,17 +132,18 @@ InRange Kind.CaseTree ns n v = Unit {0}
 mutual
   pub data Stands (ns : Names) (nodes : List Node) : ℕ → ℕ → Expr → ℕ → Type 0 where
     stands : (n i j k : ℕ) (x : Node) (ps qs : Exprs) → i < length nodes → ((d : Node) → getD nodes i d ≡ x) → n ≤ 32 → InRange (x .kind) ns n (x .number)
-      → All-stand ns nodes (replicate (shape (ns .arities) (headOf (ns .types) x) .parts) n) (i + 1) ps j
-      → All-stand ns nodes (map (λ b. n + b) (shape (ns .arities) (headOf (ns .types) x) .arms)) j qs k
-      → Stands ns nodes n i (expr (headOf (ns .types) x) ps qs) k
+        → All-stand ns nodes (replicate (shape (ns .arities) (headOf (ns .types) x) .parts) n) (i + 1) ps j
+        → All-stand ns nodes (map (λ b. n + b) (shape (ns .arities) (headOf (ns .types) x) .arms)) j qs k
+        → Stands ns nodes n i (expr (headOf (ns .types) x) ps qs) k
 
   pub data All-stand (ns : Names) (nodes : List Node) : List ℕ → ℕ → Exprs → ℕ → Type 0 where
     all-end : (i : ℕ) → i ≤ length nodes → All-stand ns nodes [] i end i
     all-more : (n : ℕ) (scopes : List ℕ) (i j k : ℕ) (e : Expr) (es : Exprs) → Stands ns nodes n i e j → All-stand ns nodes scopes j es k
-      → All-stand ns nodes (n ∷ scopes) i (e then es) k
+        → All-stand ns nodes (n ∷ scopes) i (e then es) k
 
 -- ---- tables
 
+-- what the bodies of a table may name
 abbrev pub namesFor : List Ty → List TypeOf → Names
 namesFor ts ss = record { types = ts; arities = map arity ss }
 

@@ -1,4 +1,4 @@
-ghost use Prim.Native.Nat.{ℕ, _+_, _-_, _<_, _≤_, _^_};
+ghost use Prim.Native.Nat.{_+_, _-_, _<_, _≤_};
 ghost use denote.Ref.{name};
 ghost use lib.ListN.{length, getD, take};
 ghost use mathlib.Core.List.{List, [], _∷_, map};
@@ -8,21 +8,24 @@ ghost use Rattle.std.specs.Vec.{made as ok};
 ghost use Rattle.lfpl.specs.Reading.{Names, eachAt, exprAt, headAt, shape};
 ghost use Rattle.lfpl.specs.Syntax.{Ty};
 ghost use Rattle.tables.specs.declared.expressions.Operand.the-variants.{Nothing as noOperand};
-ghost use Rattle.tables.specs.Inner.{Begins, Few, Gives, Named, Nexts, Ranges, inner, kindAt, operandAt, shapeOf, toCome, waiting};
+ghost use Rattle.tables.specs.Inner.{Begins, Few, Gives, Named, Nexts, Ranges, hindered, inner, kindAt, operandAt, shapeOf, toCome, waiting};
 ghost use Rattle.tables.specs.Listed.{All-stand as AllStand, headOf};
+use crate::listing::Kind;
+use crate::listing::Node;
+use crate::listing::Signature;
 use codec::cursor::Cursor;
 use codec::fault::Fault;
 use codec::fault::Refusal;
 use codec::pile::Pile;
-use crate::listing::Kind;
-use crate::listing::Node;
-use crate::listing::Signature;
 
 // a table has at most so many expressions
 const MOST_EXPRESSIONS: usize = 512;
 
 // at most so many variables are in scope
 const MOST_VARIABLES: usize = 32;
+
+// room for every body that waits and for every expression begun
+const PILE_ROOM: usize = 544;
 
 // the infix operations are numbered from 0 up to below this
 const OPERATORS_END: u32 = 5;
@@ -126,7 +129,13 @@ fn shape_of(kind: Kind) -> Shape
 }
 
 // The number of an expression in a scope of so many variables.
-fn read_operand(cursor: &mut Cursor, what: Operand, scope: usize, types: usize, functions: &[Signature]) -> Result<u32, Fault>
+fn read_operand(
+    cursor: &mut Cursor,
+    what: Operand,
+    scope: usize,
+    types: usize,
+    functions: &[Signature],
+) -> Result<u32, Fault>
     requires scope { ⌜ scope ≤ 32 ⌝ }
     requires types { ⌜ types ≤ 64 ⌝ }
     requires functions { ⌜ length (now functions) ≤ 32 ⌝ }
@@ -147,7 +156,11 @@ fn arity_of(functions: &[Signature], number: u32) -> usize
     ensures { λ r. ⌜ r ≡ getD (map (λ f. f .arity) (now (functions .entry))) number 0 ⌝ }
 {
     let f = number as usize;
-    if f < functions.len() { functions[f].arity } else { 0 }
+    if f < functions.len() {
+        functions[f].arity
+    } else {
+        0
+    }
 }
 
 // How many parts the expression has.
@@ -161,7 +174,12 @@ fn part_count(node: Node, functions: &[Signature]) -> usize
 }
 
 // An expression's kind and number, in a scope of so many variables.
-fn read_node(cursor: &mut Cursor, scope: usize, types: usize, functions: &[Signature]) -> Result<Node, Fault>
+fn read_node(
+    cursor: &mut Cursor,
+    scope: usize,
+    types: usize,
+    functions: &[Signature],
+) -> Result<Node, Fault>
     requires scope { ⌜ scope ≤ 32 ⌝ }
     requires types { ⌜ types ≤ 64 ⌝ }
     requires functions { ⌜ length (now functions) ≤ 32 ⌝ }
@@ -174,20 +192,35 @@ fn read_node(cursor: &mut Cursor, scope: usize, types: usize, functions: &[Signa
     Ok(Node { kind, number })
 }
 
+// Why an expression may not begin after `count` others in a scope of so many variables: the scope is tested before the count.
+fn hindrance(scope: usize, count: usize) -> Option<Refusal>
+    ensures { λ r. ⌜ r ≡ hindered scope count ⌝ }
+{
+    let wide = scope > MOST_VARIABLES;
+    let full = count >= MOST_EXPRESSIONS;
+    match (wide, full) {
+        (true, _) => Some(Refusal::TooManyVariables),
+        (_, true) => Some(Refusal::TooManyExpressions),
+        _ => None,
+    }
+}
+
 // An expression begins after `count` others, in a scope of so many variables.
-fn begin(cursor: &mut Cursor, count: usize, scope: usize, types: usize, functions: &[Signature]) -> Result<Node, Fault>
-    requires count { ⌜ count ≤ 512 ⌝ }
+fn begin(
+    cursor: &mut Cursor,
+    count: usize,
+    scope: usize,
+    types: usize,
+    functions: &[Signature],
+) -> Result<Node, Fault>
     requires types { ⌜ types ≤ 64 ⌝ }
     requires functions { ⌜ length (now functions) ≤ 32 ⌝ }
     ensures gives { λ r. ⌜ ((ns : Names) → Named types (now (functions .entry)) ns → Gives (headAt ns (512 - count) scope) (Begins ns scope) (now (cursor .entry)) r (now (cursor .exit))) ⌝ }
     ensures bound { λ r. ⌜ ok r (λ _. (scope ≤ 32) × (count < 512)) ⌝ }
 {
     let start = cursor.place();
-    if scope > MOST_VARIABLES {
-        return Err(cursor.fault(Refusal::TooManyVariables, start));
-    }
-    if count >= MOST_EXPRESSIONS {
-        return Err(cursor.fault(Refusal::TooManyExpressions, start));
+    if let Some(refusal) = hindrance(scope, count) {
+        return Err(cursor.fault(refusal, start));
     }
     read_node(cursor, scope, types, functions)
 }
@@ -273,7 +306,12 @@ fn pile_bodies(pile: &mut Pile<Open>, functions: &[Signature])
 }
 
 // The bodies of the functions, as nodes in reading order; answers the count of expressions.
-pub fn expressions(cursor: &mut Cursor, types: usize, functions: &[Signature], nodes: &mut [Node]) -> Result<usize, Fault>
+pub fn expressions(
+    cursor: &mut Cursor,
+    types: usize,
+    functions: &[Signature],
+    nodes: &mut [Node],
+) -> Result<usize, Fault>
     requires types { ⌜ types ≤ 64 ⌝ }
     requires functions { ⌜ length (now functions) ≤ 32 ⌝ }
     requires few { ⌜ Few (now functions) ⌝ }
@@ -288,7 +326,7 @@ pub fn expressions(cursor: &mut Cursor, types: usize, functions: &[Signature], n
         kind: Kind::Variable,
         arm: 0,
     };
-    let mut slots = [none; 544];
+    let mut slots = [none; PILE_ROOM];
     let mut pile = Pile::new(&mut slots);
     pile_bodies(&mut pile, functions);
     let mut count = 0;

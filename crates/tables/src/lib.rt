@@ -1,5 +1,7 @@
-pub mod expressions;
+mod expressions;
 pub mod listing;
 pub mod read;
-pub mod signatures;
-pub mod types;
+mod signatures;
+#[cfg(test)]
+mod tests;
+mod types;

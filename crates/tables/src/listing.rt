@@ -1,3 +1,6 @@
+ghost use mathlib.Core.Path.{_≡_};
+ghost use Rattle.tables.specs.declared.listing.Kind.the-variants.{Guard};
+
 // the six kinds of type entries, in the order of their numbers
 #[derive(Clone, Copy)]
 pub enum Form {
@@ -66,6 +69,12 @@ pub struct Listing {
     pub expressions: usize,
 }
 
-pub fn blank() -> Node {
-    Node { kind: Kind::Guard, number: 0 }
+// What stands where there is no expression.
+pub fn blank() -> Node
+    ensures { λ r. ⌜ r ≡ record { kind = Guard; number = 0 } ⌝ }
+{
+    Node {
+        kind: Kind::Guard,
+        number: 0,
+    }
 }

@@ -1,22 +1,30 @@
-ghost use Prim.Native.Nat.{ℕ, _+_, _-_, _<_, _≤_, _^_};
-ghost use lib.Dec.{eqb, leb, ltb};
-ghost use lib.ListN.{length, getD, take};
-ghost use mathlib.Core.Bool.{Bool, _&&_, false, not, true};
+ghost use Prim.Native.Nat.{_+_, _-_, _<_, _≤_};
+ghost use lib.Dec.{leb};
+ghost use lib.ListN.{length, take};
+ghost use mathlib.Core.Bool.{_&&_, false, not, true};
 ghost use mathlib.Core.List.{List, [], _++_, _∷_};
 ghost use mathlib.Core.Path.{_≡_};
 ghost use Rattle.std.specs.Vec.{made as ok};
+ghost use Rattle.codec.specs.Reading.{Takes, withinAt};
 ghost use Rattle.lfpl.specs.Reading.{entryAt, member, roomy, typesAt};
-ghost use Rattle.lfpl.specs.Syntax.{Ty, heapFree, width, width as wide};
+ghost use Rattle.lfpl.specs.Syntax.{Ty, heapFree, width};
 ghost use Rattle.tables.specs.Inner.{Alike, Gives, Makes, Refers, formAt, referAt};
 ghost use Rattle.tables.specs.Listed.{Types, entryOf, formed, references};
+use crate::listing::Entry;
+use crate::listing::Form;
 use codec::cursor::Cursor;
 use codec::fault::Fault;
 use codec::fault::Refusal;
-use crate::listing::Entry;
-use crate::listing::Form;
 
 // the forms by their numbers
-const FORMS: [Form; 6] = [Form::Number, Form::Diamond, Form::List, Form::Tree, Form::Pair, Form::Sum];
+const FORMS: [Form; 6] = [
+    Form::Number,
+    Form::Diamond,
+    Form::List,
+    Form::Tree,
+    Form::Pair,
+    Form::Sum,
+];
 
 // a table has from one type up to below so many
 const TYPES_END: u32 = 65;
@@ -24,8 +32,17 @@ const TYPES_END: u32 = 65;
 // no type is wider, in words
 const WIDEST: u32 = 16;
 
-// nor an element of a list, which shares its cell with the word of the tail
+// nor an element of a list, which shares a memory cell of sixteen words with the tail's word
 const WIDEST_ELEMENT: u8 = 15;
+
+// what stands where there is no entry
+pub const NO_ENTRY: Entry = Entry {
+    form: Form::Number,
+    first: 0,
+    second: 0,
+    width: 1,
+    heap_free: true,
+};
 
 // the form of an entry and the earlier entries that it refers to (0 where it has none)
 #[derive(Clone, Copy)]
@@ -68,7 +85,11 @@ fn read_form(cursor: &mut Cursor, count: usize) -> Result<Formation, Fault>
     let references = reference_count(form);
     let first = reference(cursor, references >= 1, count)?;
     let second = reference(cursor, references >= 2, count)?;
-    Ok(Formation { form, first, second })
+    Ok(Formation {
+        form,
+        first,
+        second,
+    })
 }
 
 // The entry with the number `i`.
@@ -79,13 +100,7 @@ fn entry_of(entries: &[Entry], i: u8) -> Entry
     if i < entries.len() {
         return entries[i];
     }
-    Entry {
-        form: Form::Number,
-        first: 0,
-        second: 0,
-        width: 1,
-        heap_free: true,
-    }
+    NO_ENTRY
 }
 
 // The entry has the form and the references.
@@ -94,7 +109,9 @@ fn alike(e: Entry, made: Formation) -> bool
     ensures complete { λ r. ⌜ (Alike e made → r ≡ true) ⌝ }
 {
     let count = reference_count(made.form);
-    e.form as u8 == made.form as u8 && (count < 1 || e.first == made.first) && (count < 2 || e.second == made.second)
+    e.form as u8 == made.form as u8
+        && (count < 1 || e.first == made.first)
+        && (count < 2 || e.second == made.second)
 }
 
 // One of the entries has the form and the references.
@@ -121,12 +138,12 @@ fn width_of(form: Form, a: u8, b: u8) -> u32
     }
 }
 
-// A type of the form is too wide, or the element of a list is; `a` is the width of the first type that it is made of.
-fn too_wide(form: Form, width: u32, a: u8) -> bool
-    ensures wide { λ r. ⌜ ((A B : Ty) → (1 ≤ references form → a ≡ wide A) → width ≡ wide (formed form A B) → r ≡ not (leb (wide (formed form A B)) 16 && roomy (formed form A B))) ⌝ }
-    ensures small { λ r. ⌜ (r ≡ false → width ≤ 16) ⌝ }
+// A type of the form, of so many words, is too wide, or the element of a list is; `a` is the width of the first type that it is made of.
+fn too_wide(form: Form, words: u32, a: u8) -> bool
+    ensures wide { λ r. ⌜ ((A B : Ty) → (1 ≤ references form → a ≡ width A) → words ≡ width (formed form A B) → r ≡ not (leb (width (formed form A B)) 16 && roomy (formed form A B))) ⌝ }
+    ensures small { λ r. ⌜ (r ≡ false → words ≤ 16) ⌝ }
 {
-    if width > WIDEST {
+    if words > WIDEST {
         return true;
     }
     match form {
@@ -146,6 +163,19 @@ fn heap_free(form: Form, a: bool, b: bool) -> bool
     }
 }
 
+// The entry of a type, with its width and whether it is heap-free.
+fn entry_with(made: Formation, width: u8, heap_free: bool) -> Entry
+    ensures { λ r. ⌜ r ≡ record { form = made .form; first = made .first; second = made .second; width = width; «heap_free» = «heap_free» } ⌝ }
+{
+    Entry {
+        form: made.form,
+        first: made.first,
+        second: made.second,
+        width,
+        heap_free,
+    }
+}
+
 // One entry more after `entries`.
 fn entry(cursor: &mut Cursor, entries: &[Entry]) -> Result<Entry, Fault>
     requires { ⌜ length (now entries) ≤ 64 ⌝ }
@@ -162,13 +192,17 @@ fn entry(cursor: &mut Cursor, entries: &[Entry]) -> Result<Entry, Fault>
     if too_wide(made.form, width, a.width) {
         return Err(cursor.fault(Refusal::TooWide, start));
     }
-    Ok(Entry {
-        form: made.form,
-        first: made.first,
-        second: made.second,
-        width: width as u8,
-        heap_free: heap_free(made.form, a.heap_free, b.heap_free),
-    })
+    let free = heap_free(made.form, a.heap_free, b.heap_free);
+    Ok(entry_with(made, width as u8, free))
+}
+
+// The count of a table's types.
+fn type_count(cursor: &mut Cursor) -> Result<usize, Fault>
+    ensures takes { λ r. ⌜ Takes (withinAt 1 65) (now (cursor .entry)) r (now (cursor .exit)) ⌝ }
+    ensures bound { λ r. ⌜ ok r (λ n. n < 65) ⌝ }
+{
+    let n = cursor.within(1, TYPES_END)?;
+    Ok(n as usize)
 }
 
 // The types of a table, in `slots`; answers their count.
@@ -177,7 +211,7 @@ pub fn types(cursor: &mut Cursor, slots: &mut [Entry]) -> Result<usize, Fault>
     ensures gives { λ r. ⌜ Gives typesAt (λ n ts. Types (take n (now (slots .exit))) ts) (now (cursor .entry)) r (now (cursor .exit)) ⌝ }
     ensures bound { λ r. ⌜ ok r (λ n. n ≤ 64) ⌝ }
 {
-    let count = cursor.within(1, TYPES_END)? as usize;
+    let count = type_count(cursor)?;
     for i in 0..count {
         let e = entry(cursor, &slots[0..i])?;
         slots[i] = e;

@@ -5,12 +5,12 @@ use mathlib.Core.Path.{_≡_, refl, sym, ap, _∙_, subst}
 use Rattle.std.proofs.shelf.Results.{err-from-errBy}
 use Rattle.std.proofs.shelf.Tests.{eq-eqb, ne-eqb}
 use Rattle.lfpl.proofs.SameTypes.{same-eq}
-use Rattle.lfpl.specs.Judge.{Verdict, fine, _>>=_, demand}
+use Rattle.lfpl.specs.Judge.{Verdict, _>>=_, demand}
 use Rattle.codec.specs.declared.fault.Refusal.the-variants.{TypeFault}
 use Rattle.lfpl.specs.Syntax.{Ty, sameTy}
-use Rattle.judge.specs.Codes.{Coded}
+use Rattle.typing.specs.Codes.{Coded}
 use Rattle.judge.specs.Notes.{widths}
-use Rattle.judge.proofs.Coding.{codes-tell}
+use Rattle.typing.proofs.Coding.{codes-tell}
 use Rattle.judge.proofs.Passing.{row-narrow, faulted-by, body-noted}
 use Rattle.judge.proofs.judge.judge_body.Needs as need
 
@@ -32,7 +32,7 @@ returns-in-Break-found c ts fs g j P =
     let I = c .extend-all-scope .ensures .scopes ts [] (g .params) [] (P .basis .typed) K (c .no-variables .ensures .scopes ts) in
     let p = err-from-errBy (c .from-residual .result) (c .from-residual .ensures .1) in
     rw (p .1, p .2) (faulted-by (c .in-Break-found .ensures tt ts fs (g .params) _ (g .body) j (record { basis = P .basis; scope = I; stands = P .stands }))
-      (λ w i e. ap (λ (v : Verdict Ty). v >>= λ A. demand (sameTy A (g .result)) TypeFault (c .args .at) tt) e))
+    (λ w i e. ap (λ (v : Verdict Ty). v >>= λ A. demand (sameTy A (g .result)) TypeFault (c .args .at) tt) e))
 
 pub returns-then-found-result : need.returns-then-found-result
 returns-then-found-result c ts fs g j P =
@@ -41,10 +41,10 @@ returns-then-found-result c ts fs g j P =
     let A = c .in-Continue-found .ensures tt ts fs (g .params) _ (g .body) j (record { basis = P .basis; scope = I; stands = P .stands }) in
     let r = subst (Coded ts (c .code-of-result .result)) (sym (P .signs .result)) (c .code-of-result .ensures ts (P .basis .typed) (P .signs .number)) in
     let s = sym (codes-tell (c .args .listing .now) ts (P .basis .typed) _ _ (A .type) (g .result) (A .code) r) ∙ ne-eqb _ _ (c .if-found-result .taken) in
-    record {
+    rw (c .fault .ensures) (record {
       verdict = ap (λ (v : Verdict Ty). v >>= λ A. demand (sameTy A (g .result)) TypeFault (c .args .at) tt) (A .typed) ∙ ap (λ (b : Bool). demand b TypeFault (c .args .at) tt) s;
       part = refl;
-    }
+    })
 
 pub returns : need.returns
 returns c ts fs g j P =

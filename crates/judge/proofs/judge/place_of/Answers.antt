@@ -1,11 +1,11 @@
 use Prim.Native.Nat.{ℕ, _<_}
-use mathlib.Core.Path.{_≡_, refl, sym, ap, _∙_, subst}
+use mathlib.Core.Path.{_≡_, sym, ap, _∙_, subst}
 use lib.ListN.{length, getD}
 use Rattle.lfpl.specs.Syntax.{Head, var}
 use Rattle.tables.specs.Listed.{InRange, headBy}
 use Rattle.tables.specs.declared.listing.Kind.{Kind}
-use Rattle.judge.specs.Rules.{namesOf}
-use Rattle.judge.proofs.Scoping.{variable-place}
+use Rattle.typing.specs.Rules.{namesOf}
+use Rattle.typing.proofs.Scoping.{variable-place}
 use Rattle.judge.proofs.judge.place_of.Needs as need
 
 pub returns-in-Variable : need.returns-in-Variable

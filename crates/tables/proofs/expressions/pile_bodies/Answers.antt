@@ -12,8 +12,7 @@ use Rattle.tables.proofs.expressions.pile_bodies.Needs as need
 pub loop-i-holds : need.loop-i-holds
 loop-i-holds c =
     let fs = c .args .functions .now in
-    let l = length-map fs (λ (f : Signature). f .arity) in
-    (
+    let l = length-map fs (λ (f : Signature). f .arity) in (
       waiting-none (held (c .args .pile .now)) (c .pre .empty) ∙ sym (drop-all (length fs) (map (λ (f : Signature). f .arity) fs) (omega (arith, l))),
       omega (arith, ap length (c .pre .empty)),
       c .pre .sound,
@@ -32,8 +31,7 @@ loop-i-again c =
     let p = c .push .ensures in
     let h : length os < room (c .loop-i .pile) = omega (arith, s .1, s .3, c .pre .functions, c .loop-i-test .taken) in
     let e = pushed-one os (held (c .push .last .self)) (c .body .result) (room (c .loop-i .pile)) (c .push .result) (p .fits) (p .held) h in
-    let i : c .loop-i .i ≤ length fs = omega (arith, s .1) in
-    (
+    let i : c .loop-i .i ≤ length fs = omega (arith, s .1) in (
       body-before fs (c .loop-i .i) _ (c .body .result) os (held (c .push .last .self)) (c .loop-i-test .taken) i e (c .body .ensures) (s .0),
       omega (arith, ap length e, s .1, c .loop-i-test .taken),
       p .sound,

@@ -1,6 +1,5 @@
-use mathlib.Core.Path.{_≡_, refl, sym, ap, _∙_, subst}
+use mathlib.Core.Path.{refl}
 use native.Mathlib.Omega.{arith}
-use Rattle.std.specs.declared.result.Result.the-variants.{Ok, Err}
 use Rattle.std.proofs.shelf.Results.{err-from-errBy}
 use Rattle.codec.proofs.Takings.{takes-break, takes-on, takes-done}
 use Rattle.lfpl.specs.Typing.{typeAt}
@@ -25,8 +24,8 @@ returns-in-Break-result c =
     rw (p .1, p .2)
     record {
       gives = λ ts l.
-        let a = c .in-Continue-arity .ensures tt .gives ts l in
-        takes-on (parametersAt ts) (signatureAt ts) (resultAt ts) (c .args .cursor .now) (signature-is ts _ _) (c .parameters .last .cursor) (a .0) (a .1) _ _
+          let a = c .in-Continue-arity .ensures tt .gives ts l in
+          takes-on (parametersAt ts) (signatureAt ts) (resultAt ts) (c .args .cursor .now) (signature-is ts _ _) (c .parameters .last .cursor) (a .0) (a .1) _ _
           (break (typeRef ts) (λ B. pure (record { params = a .0; result = B })) (c .in-Break-result .field-0 .0) (type-breaks ts (c .args .types) (c .in-Break-result .field-0 .0) l (c .in-Break-result .ensures tt .takes)));
       bound = tt;
     }
@@ -38,14 +37,13 @@ returns c =
     let few = c .in-Continue-arity .ensures tt .bound in
     record {
       gives = λ ts l.
-        let a = c .in-Continue-arity .ensures tt .gives ts l in
-        let s : Signature = record { params = a .0; result = typeAt ts j } in
-        (
-          s,
-          takes-on (parametersAt ts) (signatureAt ts) (resultAt ts) (c .args .cursor .now) (signature-is ts _ _) (c .parameters .last .cursor) (a .0) (a .1) _ _
-            (on (typeRef ts) (λ B. pure (record { params = a .0; result = B })) (typeAt ts j) (type-read ts (c .args .types) j l (e .takes)) _ _
-              (takes-done (pure s) (c .within .last .self) s refl)),
-          record { few = few; full = c .parameters .kept .slots; numbers = a .2 .0; params = a .2 .1; number = omega (arith, l, e .bound); result = refl },
-        );
+          let a = c .in-Continue-arity .ensures tt .gives ts l in
+          let s : Signature = record { params = a .0; result = typeAt ts j } in (
+            s,
+            takes-on (parametersAt ts) (signatureAt ts) (resultAt ts) (c .args .cursor .now) (signature-is ts _ _) (c .parameters .last .cursor) (a .0) (a .1) _ _
+                (on (typeRef ts) (λ B. pure (record { params = a .0; result = B })) (typeAt ts j) (type-read ts (c .args .types) j l (e .takes)) _ _
+                (takes-done (pure s) (c .within .last .self) s refl)),
+            record { few = few; full = c .parameters .kept .slots; numbers = a .2 .0; params = a .2 .1; number = omega (arith, l, e .bound); result = refl },
+          );
       bound = few;
     }

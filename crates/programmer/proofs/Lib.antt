@@ -1,0 +1,4 @@
+mod Listing
+mod Rows
+mod Calls
+mod Courses

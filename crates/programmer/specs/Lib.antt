@@ -1,0 +1,5 @@
+-- The definitions that the contracts of this crate cite.
+pub mod Entries
+pub mod Ledger
+pub mod Agreement
+pub mod Course

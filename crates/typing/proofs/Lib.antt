@@ -1,0 +1,4 @@
+pub mod Coding
+pub mod Masks
+pub mod Ruling
+pub mod Scoping
