@@ -1,6 +1,8 @@
 //! Makes code of an admitted table: each expression's operation, from what the table lists and the judge noted. An expression is made of its number alone, so they
 //! are made one by one, in any order.
 
+#![tactic(auto)]
+
 ghost use Rattle.std.specs.Prelude.{◌≡◌, ℕ, ◌<◌, List, slice_index, slice_index_or};
 ghost use Rattle.std.specs.Int.{w32};
 ghost use Rattle.std.proofs.Common.{of_z};

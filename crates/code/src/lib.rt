@@ -1,6 +1,8 @@
 //! Code: an admitted table made ready to run. Each expression has its operation, with what it needs to know of its types and of where its variables lie, so that a
 //! machine looks nothing up but the expression itself.
 
+#![tactic(auto)]
+
 ghost use Rattle.std.specs.Prelude.{◌≡◌, ◌%◌};
 ghost use Rattle.code.specs.Nodes.{node_at, start_at};
 

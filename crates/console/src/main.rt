@@ -1,5 +1,7 @@
 //! Plays scripts of calls, and prints one answer a line: the files that the arguments name, one after another, or else standard input.
 
+#![tactic(auto)]
+
 mod line;
 mod printer;
 mod script;

@@ -1,4 +1,7 @@
 // The language as mathematics. Nothing runs here: the contracts state what is proved of the definitions in specs/.
+
+#![tactic(auto)]
+
 ghost use Rattle.lfpl.specs.Laws.{JudgementIsHofmanns, ProgramsAreHofmanns, ShapesAreTheRules, SumOfOne};
 
 // The judgement and Hofmann's typing rules agree.

@@ -3,6 +3,8 @@
 //! What a run means is the machine of crate `meaning`, whose states are expressions with the values of their variables and parts. This machine has those values in
 //! words and cells; `specs/Enacting.antt` says when it enacts such a state, and every call keeps that (see `step`, `carry`).
 
+#![tactic(auto)]
+
 mod ends;
 mod turns;
 

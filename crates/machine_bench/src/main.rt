@@ -2,6 +2,8 @@
 //! arguments to its finish, the least mean of five rounds, and its result's checksum. The argument is how many runs a round has; without it each routine is run once, and no times are
 //! told.
 
+#![tactic(auto)]
+
 use machine::Machine;
 use pool::block::BlockPool;
 use routines::routine::{ROUTINES, Routine};

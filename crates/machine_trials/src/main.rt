@@ -1,6 +1,8 @@
 //! Trials of the machine: each routine on an input that nearly fills the pool, over each kind of pool, and carried in slices of another length; and
 //! once each is abandoned under way. What should be printed is worked out by `bench/evaluate.py trials`, an evaluator written apart.
 
+#![tactic(auto)]
+
 use machine::Machine;
 use pool::Pool;
 use pool::block::BlockPool;

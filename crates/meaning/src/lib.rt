@@ -1,4 +1,7 @@
 // What a run means: the evaluator and the machine as mathematics. No code runs here; each function stands for theorems, which its contract names.
+
+#![tactic(auto)]
+
 ghost use Rattle.meaning.specs.Laws.{LeastLaw, EndsLaw, GoingLaw, PiecesLaw, LimitsLaw, HaltsLaw};
 ghost use Rattle.meaning.specs.Sound.{SoundLaw, LinearLaw};
 ghost use Rattle.meaning.specs.States.{PlacesLaw, BoundsLaw, TypesLaw};

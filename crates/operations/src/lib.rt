@@ -3,6 +3,8 @@
 //! A run keeps its values in words: the variables of a body lie from the body's first word on, and the parts of an expression that are worked out lie above them,
 //! one after another. An operation makes of such parts the expression's value, where it is waited for, or lays out what the arm that it chooses binds.
 
+#![tactic(auto)]
+
 mod cells;
 mod choices;
 mod values;

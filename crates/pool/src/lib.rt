@@ -3,6 +3,8 @@
 //! A cell has a number and sixteen words of 32 bits. A pool lends cells out: a taken cell belongs to whoever took it, until
 //! it is given back. Routines work on any pool; this crate has five.
 
+#![tactic(auto)]
+
 pub mod block;
 mod cells;
 pub mod lent;

@@ -6,8 +6,8 @@ use pool::Pool;
 
 /// Takes cells until there is none, and answers how many.
 pub fn drain<P: Pool>(pool: &mut P) -> u32
-    ensures all { result ≡ (means pool.old).free }
-    ensures none { (means pool.new).free ≡ 0 }
+    ensures all { result ≡ (P.Pool.means pool.old).free }
+    ensures none { (P.Pool.means pool.new).free ≡ 0 }
 {
     let mut taken: u32 = 0;
     while pool.take().is_some() {
@@ -18,8 +18,8 @@ pub fn drain<P: Pool>(pool: &mut P) -> u32
 
 /// Takes a cell, writes two words and reads them back, and gives the cell back.
 pub fn two_words<P: Pool>(pool: &mut P, a: u32, b: u32) -> Option<(u32, u32)>
-    ensures same { means pool.new ≡ means pool.old }
-    ensures back { MatchOption result ((means pool.old).free ≡ 0) (λ x. (x.0 ≡ a) × (x.1 ≡ b)) }
+    ensures same { P.Pool.means pool.new ≡ P.Pool.means pool.old }
+    ensures back { MatchOption result ((P.Pool.means pool.old).free ≡ 0) (λ x. (x.0 ≡ a) × (x.1 ≡ b)) }
 {
     let cell = pool.take()?;
     let _ = pool.write(cell, 0, a);

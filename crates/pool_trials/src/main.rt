@@ -1,5 +1,7 @@
 //! Trials of the pools: each kind is made, counted, written, read and emptied by code that knows only that it is a pool.
 
+#![tactic(auto)]
+
 mod generic;
 mod hollow;
 mod making;

@@ -30,7 +30,7 @@ pub fn take_in_block(block: &mut [u32]) -> Option<u32>
 
 /// A cell of a lent pool: the owner knows that a cell of the pool was taken.
 pub fn take_lent<P: Pool>(pool: &mut P) -> Option<u32>
-    ensures { Takes (means pool.old) result (means pool.new) }
+    ensures { Takes (P.Pool.means pool.old) result (P.Pool.means pool.new) }
 {
     let mut lent = LentPool::new(pool);
     lent.take()

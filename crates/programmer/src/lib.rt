@@ -3,6 +3,8 @@
 //! What its calls answer and leave is said by a ledger, which is kept from their arguments alone (`specs/Ledger.antt`); when a programmer agrees with a ledger,
 //! its values read from the pool's words, by `specs/Agreement.antt`; and what holds over every list of calls by `specs/Course.antt` (see `play`).
 
+#![tactic(auto)]
+
 pub mod adopted;
 mod entries;
 pub mod play;
@@ -62,8 +64,8 @@ fn give_back<P: Pool>(pool: &mut P, entries: &[Entry], stored: Stored)
 impl<P: Pool> Programmer<P> {
     /// A programmer with no table, no filled shelf and no run. At most 512 of the pool's free cells are counted; cells taken earlier keep their words.
     pub fn new(pool: P, box_number: u32) -> Self
-        ensures agrees { Agrees (means pool) (opened (means pool).free box_number) (means result.pool) (view result) }
-        ensures pool { means result.pool ≡ means pool }
+        ensures agrees { Agrees (P.Pool.means pool) (opened (P.Pool.means pool).free box_number) (P.Pool.means result.pool) (view result) }
+        ensures pool { P.Pool.means result.pool ≡ P.Pool.means pool }
     {
         let made = pool.count();
         Programmer {
@@ -80,8 +82,8 @@ impl<P: Pool> Programmer<P> {
     /// Adopts the table that the bytes spell. Refused while a run stands, then while a shelf is filled (the place is the lowest one), then as the table is read and
     /// judged; the old table is then kept.
     pub fn adopt(&mut self, bytes: &[u8]) -> Result<(), Fault>
-        ensures keeps { Keeps means (Adopt bytes.now) (Plainly result) self.old self.new }
-        ensures still { Still means result self.old self.new }
+        ensures keeps { Keeps P.Pool.means (Adopt bytes.now) (Plainly result) self.old self.new }
+        ensures still { Still P.Pool.means result self.old self.new }
     {
         if self.run.is_some() {
             return Err(refusal(Refusal::RunStands, 0));
@@ -98,8 +100,8 @@ impl<P: Pool> Programmer<P> {
     /// Puts the value of the type that the bytes spell on an empty shelf, in new cells of the pool. Refused where there is no such shelf, then where it is filled,
     /// then where the table has no such type, then as the bytes are read; nothing is then altered.
     pub fn put(&mut self, shelf: u32, type_number: u32, bytes: &[u8]) -> Result<(), Fault>
-        ensures keeps { Keeps means (Put shelf type_number bytes.now) (Plainly result) self.old self.new }
-        ensures still { Still means result self.old self.new }
+        ensures keeps { Keeps P.Pool.means (Put shelf type_number bytes.now) (Plainly result) self.old self.new }
+        ensures still { Still P.Pool.means result self.old self.new }
     {
         vacant(&self.shelves, shelf)?;
         let spare = self.spare();
@@ -116,7 +118,7 @@ impl<P: Pool> Programmer<P> {
     /// Writes the bytes of the shelf's value first in the area, and answers their count; the rest of the area is left. Refused where there is no such shelf, then
     /// where it is empty, then where the area is too short; all of it is then left.
     pub fn show(&self, shelf: u32, area: &mut [u8]) -> Result<usize, Fault>
-        ensures keeps { Keeps means (Show shelf (length area.old)) (Shown result area.old area.new) self.now self.now }
+        ensures keeps { Keeps P.Pool.means (Show shelf (length area.old)) (Shown result area.old area.new) self.now self.now }
         ensures left { Left result area.old area.new }
     {
         let stored = look(&self.shelves, shelf)?;
@@ -133,7 +135,7 @@ impl<P: Pool> Programmer<P> {
 
     /// The cells that are spare: those counted, less what the pool's count fell since the making.
     pub fn spare(&self) -> u32
-        ensures keeps { Keeps means Spare (λ a. a ≡ spares result) self.now self.now }
+        ensures keeps { Keeps P.Pool.means Spare (λ a. a ≡ spares result) self.now self.now }
         ensures is { result ≡ self.now.total - (self.now.made - (P.Pool.means self.now.pool).free) }
     {
         let free = self.pool.count();
@@ -142,8 +144,8 @@ impl<P: Pool> Programmer<P> {
 
     /// Empties the shelf: its value's cells are given back to the pool. Refused where there is no such shelf, then where it is empty.
     pub fn empty(&mut self, shelf: u32) -> Result<(), Fault>
-        ensures keeps { Keeps means (Empty shelf) (Plainly result) self.old self.new }
-        ensures still { Still means result self.old self.new }
+        ensures keeps { Keeps P.Pool.means (Empty shelf) (Plainly result) self.old self.new }
+        ensures still { Still P.Pool.means result self.old self.new }
     {
         let stored = look(&self.shelves, shelf)?;
         let entries = entries_of(&self.table);

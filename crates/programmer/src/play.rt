@@ -53,7 +53,7 @@ pub trait Listener<P: Pool> {
         shown: &[u8],
         programmer: &Programmer<P>,
     )
-        requires { After means cells box_number room calls.now answer shown.now programmer.now };
+        requires { After P.Pool.means cells box_number room calls.now answer shown.now programmer.now };
 }
 
 // The answer of a call that is granted or refused.
@@ -73,7 +73,7 @@ fn show_front<P: Pool>(
     room: usize,
     area: &mut [u8],
 ) -> Answer
-    ensures acts { Acts means (Show shelf (min room (length area.old))) (tells result area.new) programmer.now programmer.now }
+    ensures acts { Acts P.Pool.means (Show shelf (min room (length area.old))) (tells result area.new) programmer.now programmer.now }
     ensures long { length area.new ≡ length area.old }
 {
     let room = room.min(area.len());
@@ -85,7 +85,7 @@ fn show_front<P: Pool>(
 
 // One call of a list.
 fn perform<P: Pool>(programmer: &mut Programmer<P>, call: Call, area: &mut [u8]) -> Answer
-    ensures acts { Acts means (asked (length area.old) call.entry) (tells result area.new) programmer.old programmer.new }
+    ensures acts { Acts P.Pool.means (asked (length area.old) call.entry) (tells result area.new) programmer.old programmer.new }
     ensures long { length area.new ≡ length area.old }
 {
     match call {

@@ -1,5 +1,7 @@
 //! Values in a pool's cells: their bytes are scanned and built, and they are shown and released.
 
+#![tactic(auto)]
+
 pub mod build;
 mod entries;
 pub mod release;

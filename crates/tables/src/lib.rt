@@ -1,3 +1,5 @@
+#![tactic(auto)]
+
 mod expressions;
 pub mod listing;
 pub mod read;

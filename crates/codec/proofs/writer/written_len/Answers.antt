@@ -10,5 +10,5 @@ agree = refl
 
 pub returns : goal.returns
 returns c =
-    let e : c.groups-of.result ≡ length (written c.args.n) = c.groups-of.ensures ∙ sym (length_by_zeros c.args.n (search rules)) in
+    let e : c.groups_of.result ≡ length (written c.args.n) = c.groups_of.ensures ∙ sym (length_by_zeros c.args.n (search rules)) in
     record { length = e; shortest = λ bs used r. omega (arith, e, written_shortest bs c.args.n used r); examples = agree }

@@ -3,12 +3,12 @@ use Rattle.std.proofs.lemmas.Result.{err_from_is_err_and}
 use Rattle.judge.proofs.Bodied.{read_refused, judged_admits}
 use Rattle.judge.proofs.admit.admit.Goals as goal
 
-pub returns-in-err-listing : goal.returns-in-err-listing
-returns-in-err-listing c =
-    let r = err_from_is_err_and c.from-residual.result c.from-residual.ensures.1 in
-    record { answers = rw (r.1, r.2) (read_refused c.args.bytes.now _ c.in-err-listing.ensures); typing = admission_is_typing c.args.bytes.now }
+pub returns-in_err-listing : goal.returns-in_err-listing
+returns-in_err-listing c =
+    let r = err_from_is_err_and c.from_residual.result c.from_residual.ensures.1 in
+    record { answers = rw (r.1, r.2) (read_refused c.args.bytes.now _ c.in_err-listing.ensures); typing = admission_is_typing c.args.bytes.now }
 
 pub returns : goal.returns
 returns c =
-    let R = c.in-ok-listing.ensures in
-    record { answers = judged_admits c.args.bytes.now R.0 R.1 R.2 c.judge-listing.result (c.judge-listing.ensures R.0 R.3); typing = admission_is_typing c.args.bytes.now }
+    let R = c.in_ok-listing.ensures in
+    record { answers = judged_admits c.args.bytes.now R.0 R.1 R.2 c.judge_listing.result (c.judge_listing.ensures R.0 R.3); typing = admission_is_typing c.args.bytes.now }

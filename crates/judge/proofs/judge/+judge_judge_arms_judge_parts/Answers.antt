@@ -19,8 +19,8 @@ use Rattle.judge.proofs.Standing.{no_node, no_slots, short_at, bound_length, in_
 use Rattle.judge.proofs.Verdicts.{parts_fault, early_fault, arms_fault, types_fault, sharing_fault, judged, first_fault, rest_fault, first_arm_fault, other_arm_fault, no_arms_judged}
 use Rattle.judge.proofs.judge.+judge_judge_arms_judge_parts.Goals as goal
 
-pub judge-offset-bounds-listing-at : goal.judge-offset-bounds-listing-at
-judge-offset-bounds-listing-at t c =
+pub judge-offset_bounds-listing-at : goal.judge-offset_bounds-listing-at
+judge-offset_bounds-listing-at t c =
     let q = c.requires.posed in
     let ts = q.ts in
     let fs = q.fs in
@@ -46,8 +46,8 @@ judge-bounds-listing-at t c =
     let N = at_node c.args.listing.now ts fs no_node P.stands in
     (inside _ _ _ ts fs Γ ps e j P _ N).1
 
-pub judge-overflow-add-at : goal.judge-overflow-add-at
-judge-overflow-add-at t c =
+pub judge-overflow_add-at : goal.judge-overflow_add-at
+judge-overflow_add-at t c =
     let q = c.requires.posed in
     let ts = q.ts in
     let fs = q.fs in
@@ -60,8 +60,8 @@ judge-overflow-add-at t c =
     let i = (inside _ _ _ ts fs Γ ps e j P _ N).1 in
     search rules
 
-pub judge-judge-parts-requires : goal.judge-judge-parts-requires
-judge-judge-parts-requires t c =
+pub judge-judge_parts-requires : goal.judge-judge_parts-requires
+judge-judge_parts-requires t c =
     let q = c.requires.posed in
     let ts = q.ts in
     let fs = q.fs in
@@ -71,11 +71,11 @@ judge-judge-parts-requires t c =
     let j = q.j in
     let P = q.is in
     let N = at_node c.args.listing.now ts fs no_node P.stands in
-    let ag = c.rule-of-rule.ensures in
-    let is = c.parts-of-count.ensures ts fs Γ _ P.basis (known_parts _ _ _ ts fs Γ ps e j P _ N _ ag) in
+    let ag = c.rule_of-rule.ensures in
+    let is = c.parts_of-count.ensures ts fs Γ _ P.basis (known_parts _ _ _ ts fs Γ ps e j P _ N _ ag) in
     let i = inside _ _ _ ts fs Γ ps e j P _ N in
     let f = parts_few _ _ _ ts fs Γ ps e j P _ N _ ag _ is in
-    let z = c.no-codes.ensures.count in
+    let z = c.no_codes.ensures.count in
     let w = c.requires.low in (
       omega (arith, c.decreases, i.0),
       (
@@ -90,14 +90,14 @@ judge-judge-parts-requires t c =
       ),
     )
 
-pub judge-returns-in-err-parts : goal.judge-returns-in-err-parts
-judge-returns-in-err-parts t c ts fs Γ ps e j P =
+pub judge-returns-in_err-parts : goal.judge-returns-in_err-parts
+judge-returns-in_err-parts t c ts fs Γ ps e j P =
     let N = at_node c.args.listing.now ts fs no_node P.stands in
-    let ag = c.rule-of-rule.ensures in
-    let is = c.parts-of-count.ensures ts fs Γ _ P.basis (known_parts _ _ _ ts fs Γ ps e j P _ N _ ag) in
-    let p = err_from_is_err_and c.from-residual.result c.from-residual.ensures.1 in
+    let ag = c.rule_of-rule.ensures in
+    let is = c.parts_of-count.ensures ts fs Γ _ P.basis (known_parts _ _ _ ts fs Γ ps e j P _ N _ ag) in
+    let p = err_from_is_err_and c.from_residual.result c.from_residual.ensures.1 in
     rw (p.1, p.2) (faulted_by
-    (c.in-err-parts.ensures ts fs Γ ps [] N.parts N.middle (parts_posed _ _ _ ts fs Γ ps e j P _ N _ ag _ is) (c.no-codes.ensures.encodes ts))
+    (c.in_err-parts.ensures ts fs Γ ps [] N.parts N.middle (parts_posed _ _ _ ts fs Γ ps e j P _ N _ ag _ is) (c.no_codes.ensures.encodes ts))
     (parts_fault fs Γ c.args.at (c.args.at + 1) N.middle e (head_of ts _) N.parts N.arms N.is refl (middle_is _ _ _ ts fs Γ ps e j P _ N).0))
 
 pub judge-fits-fit-requires : goal.judge-fits-fit-requires
@@ -111,27 +111,27 @@ judge-fits-fit-requires t c =
     let j = q.j in
     let P = q.is in
     let N = at_node c.args.listing.now ts fs no_node P.stands in
-    let ag = c.rule-of-rule.ensures in
-    let is = c.parts-of-count.ensures ts fs Γ _ P.basis (known_parts _ _ _ ts fs Γ ps e j P _ N _ ag) in
-    let Q = c.in-ok-parts.ensures ts fs Γ ps [] N.parts N.middle (parts_posed _ _ _ ts fs Γ ps e j P _ N _ ag _ is) (c.no-codes.ensures.encodes ts) in
+    let ag = c.rule_of-rule.ensures in
+    let is = c.parts_of-count.ensures ts fs Γ _ P.basis (known_parts _ _ _ ts fs Γ ps e j P _ N _ ag) in
+    let Q = c.in_ok-parts.ensures ts fs Γ ps [] N.parts N.middle (parts_posed _ _ _ ts fs Γ ps e j P _ N _ ag _ is) (c.no_codes.ensures.encodes ts) in
     Q.row.few
 
-pub judge-returns-then-unfit-choice : goal.judge-returns-then-unfit-choice
-judge-returns-then-unfit-choice t c ts fs Γ ps e j P =
+pub judge-returns-then-unfit_choice : goal.judge-returns-then-unfit_choice
+judge-returns-then-unfit_choice t c ts fs Γ ps e j P =
     let N = at_node c.args.listing.now ts fs no_node P.stands in
-    let ag = c.rule-of-rule.ensures in
-    let is = c.parts-of-count.ensures ts fs Γ _ P.basis (known_parts _ _ _ ts fs Γ ps e j P _ N _ ag) in
-    let Q = c.in-ok-parts.ensures ts fs Γ ps [] N.parts N.middle (parts_posed _ _ _ ts fs Γ ps e j P _ N _ ag _ is) (c.no-codes.ensures.encodes ts) in
+    let ag = c.rule_of-rule.ensures in
+    let is = c.parts_of-count.ensures ts fs Γ _ P.basis (known_parts _ _ _ ts fs Γ ps e j P _ N _ ag) in
+    let Q = c.in_ok-parts.ensures ts fs Γ ps [] N.parts N.middle (parts_posed _ _ _ ts fs Γ ps e j P _ N _ ag _ is) (c.no_codes.ensures.encodes ts) in
     let k = known_subject _ _ _ ts fs Γ ps e j P _ N _ ag _ is Q.types Q.many in
     let T = c.subject-about.ensures ts fs Γ Q.types ps P.basis P.scope Q.row k in
     let F = c.fits-fit.ensures ts fs Γ Q.types _ _ P.basis k ag.short.0 T Q.row in
     let M = middle_is _ _ _ ts fs Γ ps e j P _ N in
     let m = Q.ends ∙ M.0 in
-    let u = early_unfit _ _ _ ts fs Γ ps e j P _ N _ ag Q.types c.fits-fit.result F (sym c.unfit-choice.ensures ∙ c.if-unfit-choice.true) in
-    rw c.fault.ensures (record { verdict = early_fault fs Γ c.args.at (c.args.at + 1) c.in-ok-parts.parts.end e (head_of ts _) N.parts N.arms N.is refl m Q.types Q.typed u.0 u.1; part = refl })
+    let u = early_unfit _ _ _ ts fs Γ ps e j P _ N _ ag Q.types c.fits-fit.result F (sym c.unfit_choice.ensures ∙ c.if-unfit_choice.true) in
+    rw c.fault.ensures (record { verdict = early_fault fs Γ c.args.at (c.args.at + 1) c.in_ok-parts.parts.end e (head_of ts _) N.parts N.arms N.is refl m Q.types Q.typed u.0 u.1; part = refl })
 
-pub judge-judge-arms-requires : goal.judge-judge-arms-requires
-judge-judge-arms-requires t c =
+pub judge-judge_arms-requires : goal.judge-judge_arms-requires
+judge-judge_arms-requires t c =
     let q = c.requires.posed in
     let ts = q.ts in
     let fs = q.fs in
@@ -141,9 +141,9 @@ judge-judge-arms-requires t c =
     let j = q.j in
     let P = q.is in
     let N = at_node c.args.listing.now ts fs no_node P.stands in
-    let ag = c.rule-of-rule.ensures in
-    let is = c.parts-of-count.ensures ts fs Γ _ P.basis (known_parts _ _ _ ts fs Γ ps e j P _ N _ ag) in
-    let Q = c.in-ok-parts.ensures ts fs Γ ps [] N.parts N.middle (parts_posed _ _ _ ts fs Γ ps e j P _ N _ ag _ is) (c.no-codes.ensures.encodes ts) in
+    let ag = c.rule_of-rule.ensures in
+    let is = c.parts_of-count.ensures ts fs Γ _ P.basis (known_parts _ _ _ ts fs Γ ps e j P _ N _ ag) in
+    let Q = c.in_ok-parts.ensures ts fs Γ ps [] N.parts N.middle (parts_posed _ _ _ ts fs Γ ps e j P _ N _ ag _ is) (c.no_codes.ensures.encodes ts) in
     let k = known_subject _ _ _ ts fs Γ ps e j P _ N _ ag _ is Q.types Q.many in
     let T = c.subject-about.ensures ts fs Γ Q.types ps P.basis P.scope Q.row k in
     let F = c.fits-fit.ensures ts fs Γ Q.types _ _ P.basis k ag.short.0 T Q.row in
@@ -152,7 +152,7 @@ judge-judge-arms-requires t c =
     let i = inside _ _ _ ts fs Γ ps e j P _ N in
     let w = c.requires.low in
     let z = Q.ends in
-    let y = c.judge-parts.auto.notes in
+    let y = c.judge_parts.auto.notes in
     let b = c.requires.long in (
       omega (arith, c.decreases, i.0, z, M.1),
       (
@@ -162,7 +162,7 @@ judge-judge-arms-requires t c =
           (
             ag.two,
             (
-              c.no-codes-2.ensures.count,
+              c.no_codes-2.ensures.count,
               record { ts = ts; fs = fs; Γ = Γ; ps = ps; A = _; es = N.arms; j = j; is = arms_posed _ _ _ ts fs Γ ps e j P _ N _ ag Q.types c.fits-fit.result F _ _ T Q.ends },
             ),
           ),
@@ -170,57 +170,57 @@ judge-judge-arms-requires t c =
       ),
     )
 
-pub judge-returns-in-err-arms : goal.judge-returns-in-err-arms
-judge-returns-in-err-arms t c ts fs Γ ps e j P =
+pub judge-returns-in_err-arms : goal.judge-returns-in_err-arms
+judge-returns-in_err-arms t c ts fs Γ ps e j P =
     let N = at_node c.args.listing.now ts fs no_node P.stands in
-    let ag = c.rule-of-rule.ensures in
-    let is = c.parts-of-count.ensures ts fs Γ _ P.basis (known_parts _ _ _ ts fs Γ ps e j P _ N _ ag) in
-    let Q = c.in-ok-parts.ensures ts fs Γ ps [] N.parts N.middle (parts_posed _ _ _ ts fs Γ ps e j P _ N _ ag _ is) (c.no-codes.ensures.encodes ts) in
+    let ag = c.rule_of-rule.ensures in
+    let is = c.parts_of-count.ensures ts fs Γ _ P.basis (known_parts _ _ _ ts fs Γ ps e j P _ N _ ag) in
+    let Q = c.in_ok-parts.ensures ts fs Γ ps [] N.parts N.middle (parts_posed _ _ _ ts fs Γ ps e j P _ N _ ag _ is) (c.no_codes.ensures.encodes ts) in
     let k = known_subject _ _ _ ts fs Γ ps e j P _ N _ ag _ is Q.types Q.many in
     let T = c.subject-about.ensures ts fs Γ Q.types ps P.basis P.scope Q.row k in
     let F = c.fits-fit.ensures ts fs Γ Q.types _ _ P.basis k ag.short.0 T Q.row in
     let M = middle_is _ _ _ ts fs Γ ps e j P _ N in
     let m = Q.ends ∙ M.0 in
-    let late = sym c.unfit-choice.ensures ∙ c.if-unfit-choice.false in
-    let p = err_from_is_err_and c.from-residual-in-err-arms.result c.from-residual-in-err-arms.ensures.1 in
+    let late = sym c.unfit_choice.ensures ∙ c.if-unfit_choice.false in
+    let p = err_from_is_err_and c.from_residual-in_err-arms.result c.from_residual-in_err-arms.ensures.1 in
     rw (p.1, p.2) (faulted_by
-    (c.in-err-arms.ensures ts fs Γ ps [] _ N.arms c.args.at j (arms_posed _ _ _ ts fs Γ ps e j P _ N _ ag Q.types c.fits-fit.result F _ _ T Q.ends) (c.no-codes-2.ensures.encodes ts))
-    (arms_fault fs Γ c.args.at (c.args.at + 1) c.in-ok-parts.parts.end e (head_of ts _) N.parts N.arms N.is refl m Q.types Q.typed _ (arms_agree _ _ _ ts fs Γ ps e j P _ N _ ag Q.types c.fits-fit.result F late) (goes_on _ _ _ ts fs Γ ps e j P _ N _ ag Q.types c.fits-fit.result F late)))
+    (c.in_err-arms.ensures ts fs Γ ps [] _ N.arms c.args.at j (arms_posed _ _ _ ts fs Γ ps e j P _ N _ ag Q.types c.fits-fit.result F _ _ T Q.ends) (c.no_codes-2.ensures.encodes ts))
+    (arms_fault fs Γ c.args.at (c.args.at + 1) c.in_ok-parts.parts.end e (head_of ts _) N.parts N.arms N.is refl m Q.types Q.typed _ (arms_agree _ _ _ ts fs Γ ps e j P _ N _ ag Q.types c.fits-fit.result F late) (goes_on _ _ _ ts fs Γ ps e j P _ N _ ag Q.types c.fits-fit.result F late)))
 
 pub judge-returns-then-not-settled : goal.judge-returns-then-not-settled
 judge-returns-then-not-settled t c ts fs Γ ps e j P =
     let N = at_node c.args.listing.now ts fs no_node P.stands in
-    let ag = c.rule-of-rule.ensures in
-    let is = c.parts-of-count.ensures ts fs Γ _ P.basis (known_parts _ _ _ ts fs Γ ps e j P _ N _ ag) in
-    let Q = c.in-ok-parts.ensures ts fs Γ ps [] N.parts N.middle (parts_posed _ _ _ ts fs Γ ps e j P _ N _ ag _ is) (c.no-codes.ensures.encodes ts) in
+    let ag = c.rule_of-rule.ensures in
+    let is = c.parts_of-count.ensures ts fs Γ _ P.basis (known_parts _ _ _ ts fs Γ ps e j P _ N _ ag) in
+    let Q = c.in_ok-parts.ensures ts fs Γ ps [] N.parts N.middle (parts_posed _ _ _ ts fs Γ ps e j P _ N _ ag _ is) (c.no_codes.ensures.encodes ts) in
     let k = known_subject _ _ _ ts fs Γ ps e j P _ N _ ag _ is Q.types Q.many in
     let T = c.subject-about.ensures ts fs Γ Q.types ps P.basis P.scope Q.row k in
     let F = c.fits-fit.ensures ts fs Γ Q.types _ _ P.basis k ag.short.0 T Q.row in
     let M = middle_is _ _ _ ts fs Γ ps e j P _ N in
     let m = Q.ends ∙ M.0 in
-    let late = sym c.unfit-choice.ensures ∙ c.if-unfit-choice.false in
-    let R = c.in-ok-arms.ensures ts fs Γ ps [] _ N.arms c.args.at j (arms_posed _ _ _ ts fs Γ ps e j P _ N _ ag Q.types c.fits-fit.result F _ _ T Q.ends) (c.no-codes-2.ensures.encodes ts) in
+    let late = sym c.unfit_choice.ensures ∙ c.if-unfit_choice.false in
+    let R = c.in_ok-arms.ensures ts fs Γ ps [] _ N.arms c.args.at j (arms_posed _ _ _ ts fs Γ ps e j P _ N _ ag Q.types c.fits-fit.result F _ _ T Q.ends) (c.no_codes-2.ensures.encodes ts) in
     let V = arms_many _ _ _ ts fs Γ ps e j P _ N _ ag Q.types R.types R.many in
     let W = row_length ts _ R.types R.row in
     let two = ag.two in
     let S = c.settled.ensures c.args.listing.now ts R.types P.basis.typed R.row (omega arith) in
     let f = fit_is _ _ _ ts fs Γ ps e j P _ N _ ag Q.types c.fits-fit.result F in
     let g = arms_agree _ _ _ ts fs Γ ps e j P _ N _ ag Q.types c.fits-fit.result F late in
-    rw c.fault-then-not-settled.ensures (record { verdict = types_fault fs Γ c.args.at (c.args.at + 1) c.in-ok-parts.parts.end e (head_of ts _) N.parts N.arms N.is refl m Q.types Q.typed _ g (goes_on _ _ _ ts fs Γ ps e j P _ N _ ag Q.types c.fits-fit.result F late) R.types R.typed (ap (λ (b : Bool). b && alike (type_at R.types 0) R.types) (sym f) ∙ sym S ∙ c.if-not-settled.true); part = refl })
+    rw c.fault-then-not-settled.ensures (record { verdict = types_fault fs Γ c.args.at (c.args.at + 1) c.in_ok-parts.parts.end e (head_of ts _) N.parts N.arms N.is refl m Q.types Q.typed _ g (goes_on _ _ _ ts fs Γ ps e j P _ N _ ag Q.types c.fits-fit.result F late) R.types R.typed (ap (λ (b : Bool). b && alike (type_at R.types 0) R.types) (sym f) ∙ sym S ∙ c.if-not-settled.true); part = refl })
 
 pub judge-returns-then-shared : goal.judge-returns-then-shared
 judge-returns-then-shared t c ts fs Γ ps e j P =
     let N = at_node c.args.listing.now ts fs no_node P.stands in
-    let ag = c.rule-of-rule.ensures in
-    let is = c.parts-of-count.ensures ts fs Γ _ P.basis (known_parts _ _ _ ts fs Γ ps e j P _ N _ ag) in
-    let Q = c.in-ok-parts.ensures ts fs Γ ps [] N.parts N.middle (parts_posed _ _ _ ts fs Γ ps e j P _ N _ ag _ is) (c.no-codes.ensures.encodes ts) in
+    let ag = c.rule_of-rule.ensures in
+    let is = c.parts_of-count.ensures ts fs Γ _ P.basis (known_parts _ _ _ ts fs Γ ps e j P _ N _ ag) in
+    let Q = c.in_ok-parts.ensures ts fs Γ ps [] N.parts N.middle (parts_posed _ _ _ ts fs Γ ps e j P _ N _ ag _ is) (c.no_codes.ensures.encodes ts) in
     let k = known_subject _ _ _ ts fs Γ ps e j P _ N _ ag _ is Q.types Q.many in
     let T = c.subject-about.ensures ts fs Γ Q.types ps P.basis P.scope Q.row k in
     let F = c.fits-fit.ensures ts fs Γ Q.types _ _ P.basis k ag.short.0 T Q.row in
     let M = middle_is _ _ _ ts fs Γ ps e j P _ N in
     let m = Q.ends ∙ M.0 in
-    let late = sym c.unfit-choice.ensures ∙ c.if-unfit-choice.false in
-    let R = c.in-ok-arms.ensures ts fs Γ ps [] _ N.arms c.args.at j (arms_posed _ _ _ ts fs Γ ps e j P _ N _ ag Q.types c.fits-fit.result F _ _ T Q.ends) (c.no-codes-2.ensures.encodes ts) in
+    let late = sym c.unfit_choice.ensures ∙ c.if-unfit_choice.false in
+    let R = c.in_ok-arms.ensures ts fs Γ ps [] _ N.arms c.args.at j (arms_posed _ _ _ ts fs Γ ps e j P _ N _ ag Q.types c.fits-fit.result F _ _ T Q.ends) (c.no_codes-2.ensures.encodes ts) in
     let V = arms_many _ _ _ ts fs Γ ps e j P _ N _ ag Q.types R.types R.many in
     let W = row_length ts _ R.types R.row in
     let two = ag.two in
@@ -229,10 +229,10 @@ judge-returns-then-shared t c ts fs Γ ps e j P =
     let g = arms_agree _ _ _ ts fs Γ ps e j P _ N _ ag Q.types c.fits-fit.result F late in
     let h = shared_test c.shared.result _ _ c.shared.ensures
     (shares_mask N.parts N.arms Γ _ _ _ _ Q.again Q.occur R.occur P.scope.small P.scope.heavy) in
-    rw c.fault-then-shared.ensures (record { verdict = sharing_fault fs Γ c.args.at (c.args.at + 1) c.in-ok-parts.parts.end e (head_of ts _) N.parts N.arms N.is refl m Q.types Q.typed _ g (goes_on _ _ _ ts fs Γ ps e j P _ N _ ag Q.types c.fits-fit.result F late) R.types R.typed (ap (λ (b : Bool). b && alike (type_at R.types 0) R.types) (sym f) ∙ sym S ∙ c.if-not-settled.false) (sym h ∙ c.if-shared.true); part = refl })
+    rw c.fault-then-shared.ensures (record { verdict = sharing_fault fs Γ c.args.at (c.args.at + 1) c.in_ok-parts.parts.end e (head_of ts _) N.parts N.arms N.is refl m Q.types Q.typed _ g (goes_on _ _ _ ts fs Γ ps e j P _ N _ ag Q.types c.fits-fit.result F late) R.types R.typed (ap (λ (b : Bool). b && alike (type_at R.types 0) R.types) (sym f) ∙ sym S ∙ c.if-not-settled.false) (sym h ∙ c.if-shared.true); part = refl })
 
-pub judge-offset-bounds-notes-at : goal.judge-offset-bounds-notes-at
-judge-offset-bounds-notes-at t c =
+pub judge-offset_bounds-notes-at : goal.judge-offset_bounds-notes-at
+judge-offset_bounds-notes-at t c =
     let q = c.requires.posed in
     let ts = q.ts in
     let fs = q.fs in
@@ -257,24 +257,24 @@ judge-bounds-notes-at t c =
     let P = q.is in
     let N = at_node c.args.listing.now ts fs no_node P.stands in
     let i = (inside _ _ _ ts fs Γ ps e j P _ N).1 in
-    let y = c.judge-parts.auto.notes in
-    let z = c.judge-arms.auto.notes in
+    let y = c.judge_parts.auto.notes in
+    let z = c.judge_arms.auto.notes in
     let b = c.requires.long in
     omega arith
 
 pub judge-returns : goal.judge-returns
 judge-returns t c ts fs Γ ps e j P =
     let N = at_node c.args.listing.now ts fs no_node P.stands in
-    let ag = c.rule-of-rule.ensures in
-    let is = c.parts-of-count.ensures ts fs Γ _ P.basis (known_parts _ _ _ ts fs Γ ps e j P _ N _ ag) in
-    let Q = c.in-ok-parts.ensures ts fs Γ ps [] N.parts N.middle (parts_posed _ _ _ ts fs Γ ps e j P _ N _ ag _ is) (c.no-codes.ensures.encodes ts) in
+    let ag = c.rule_of-rule.ensures in
+    let is = c.parts_of-count.ensures ts fs Γ _ P.basis (known_parts _ _ _ ts fs Γ ps e j P _ N _ ag) in
+    let Q = c.in_ok-parts.ensures ts fs Γ ps [] N.parts N.middle (parts_posed _ _ _ ts fs Γ ps e j P _ N _ ag _ is) (c.no_codes.ensures.encodes ts) in
     let k = known_subject _ _ _ ts fs Γ ps e j P _ N _ ag _ is Q.types Q.many in
     let T = c.subject-about.ensures ts fs Γ Q.types ps P.basis P.scope Q.row k in
     let F = c.fits-fit.ensures ts fs Γ Q.types _ _ P.basis k ag.short.0 T Q.row in
     let M = middle_is _ _ _ ts fs Γ ps e j P _ N in
     let m = Q.ends ∙ M.0 in
-    let late = sym c.unfit-choice.ensures ∙ c.if-unfit-choice.false in
-    let R = c.in-ok-arms.ensures ts fs Γ ps [] _ N.arms c.args.at j (arms_posed _ _ _ ts fs Γ ps e j P _ N _ ag Q.types c.fits-fit.result F _ _ T Q.ends) (c.no-codes-2.ensures.encodes ts) in
+    let late = sym c.unfit_choice.ensures ∙ c.if-unfit_choice.false in
+    let R = c.in_ok-arms.ensures ts fs Γ ps [] _ N.arms c.args.at j (arms_posed _ _ _ ts fs Γ ps e j P _ N _ ag Q.types c.fits-fit.result F _ _ T Q.ends) (c.no_codes-2.ensures.encodes ts) in
     let V = arms_many _ _ _ ts fs Γ ps e j P _ N _ ag Q.types R.types R.many in
     let W = row_length ts _ R.types R.row in
     let two = ag.two in
@@ -284,33 +284,33 @@ judge-returns t c ts fs Γ ps e j P =
     let h = shared_test c.shared.result _ _ c.shared.ensures
     (shares_mask N.parts N.arms Γ _ _ _ _ Q.again Q.occur R.occur P.scope.small P.scope.heavy) in
     let i = (inside _ _ _ ts fs Γ ps e j P _ N).1 in
-    let y = c.judge-parts.auto.notes in
-    let z = c.judge-arms.auto.notes in
+    let y = c.judge_parts.auto.notes in
+    let z = c.judge_arms.auto.notes in
     let b = c.requires.long in
     let all = ap (λ (b : Bool). b && alike (type_at R.types 0) R.types) (sym f) ∙ sym S ∙ c.if-not-settled.false in
     let both = and_parts _ _ all in
     let apart = sym h ∙ c.if-shared.false in
     let E = end_is _ _ _ ts fs Γ ps e j P _ N in
-    passes ts fs Γ ps c.args.scope.over c.args.at j c.in-ok-parts.parts.end e (head_of ts _) N.parts N.arms N.is m (omega (arith, E.0, Q.ends))
-    Q.types R.types _ c.args.notes.now c.judge-parts.new.notes c.judge-arms.new.notes g (omega arith) (omega arith)
+    passes ts fs Γ ps c.args.scope.over c.args.at j c.in_ok-parts.parts.end e (head_of ts _) N.parts N.arms N.is m (omega (arith, E.0, Q.ends))
+    Q.types R.types _ c.args.notes.now c.judge_parts.new.notes c.judge_arms.new.notes g (omega arith) (omega arith)
     Q.noted Q.earlier R.noted R.earlier both.0 both.1 apart
-    (judged fs Γ c.args.at (c.args.at + 1) c.in-ok-parts.parts.end e (head_of ts _) N.parts N.arms N.is refl m Q.types Q.typed _ g (goes_on _ _ _ ts fs Γ ps e j P _ N _ ag Q.types c.fits-fit.result F late) R.types R.typed all apart)
-    c.whole-code.result c.own-mask.result c.place-of-place.result c.in-ok-parts.parts.mask c.in-ok-arms.arms.mask
+    (judged fs Γ c.args.at (c.args.at + 1) c.in_ok-parts.parts.end e (head_of ts _) N.parts N.arms N.is refl m Q.types Q.typed _ g (goes_on _ _ _ ts fs Γ ps e j P _ N _ ag Q.types c.fits-fit.result F late) R.types R.typed all apart)
+    c.whole-code.result c.own_mask.result c.place_of-place.result c.in_ok-parts.parts.mask c.in_ok-arms.arms.mask
     (whole_coded _ _ _ ts fs Γ ps e j P _ N _ ag Q.types R.types R.many c.whole-code.result
     (λ n. c.whole-code.ensures.built ts _ P.basis.typed T n) (λ n. c.whole-code.ensures.chosen ts R.types R.row n (omega arith)))
-    (c.own-mask.ensures ts fs (length Γ) N.small N.range) Q.occur R.occur
-    (λ v w. c.place-of-place.ensures ts Γ fs ps v P.scope N.range w)
-    c.in-ok-arms.arms.end R.ends (let w = c.requires.low in let s = P.basis.short in omega arith)
+    (c.own_mask.ensures ts fs (length Γ) N.small N.range) Q.occur R.occur
+    (λ v w. c.place_of-place.ensures ts Γ fs ps v P.scope N.range w)
+    c.in_ok-arms.arms.end R.ends (let w = c.requires.low in let s = P.basis.short in omega arith)
 
-pub judge-arms-returns-then-arm-rule : goal.judge-arms-returns-then-arm-rule
-judge-arms-returns-then-arm-rule t c ts fs Γ ps Ds B es w j P D =
+pub judge_arms-returns-then-arm-rule : goal.judge_arms-returns-then-arm-rule
+judge_arms-returns-then-arm-rule t c ts fs Γ ps Ds B es w j P D =
     let z = arms_none c.args.rule P.full c.requires.few c.args.arm c.if-arm-rule.true in
     let Z = at_none (names_of ts fs) (listed_nodes c.args.listing.now) _ (ap (map (λ (y : Slots). length Γ + y.count)) z) P.all.stand in
     none_pass ts Ds _ es _ j _ _ _ Z.0 Z.1
     (no_arms_judged fs Γ w c.args.at es _ Z.0 (ap (map (slot_types B)) z)) (no_arms_noted ts fs _ es c.args.at _ Γ ps c.args.scope.over Z.0 (ap (map (slot_types B)) z)) D refl refl refl
 
-pub judge-arms-extend-all-inner-requires : goal.judge-arms-extend-all-inner-requires
-judge-arms-extend-all-inner-requires t c =
+pub judge_arms-extend_all-inner-requires : goal.judge_arms-extend_all-inner-requires
+judge_arms-extend_all-inner-requires t c =
     let q = c.requires.posed in
     let ts = q.ts in
     let fs = q.fs in
@@ -325,7 +325,7 @@ judge-arms-extend-all-inner-requires t c =
     (ap (map (λ (y : Slots). length Γ + y.count)) z) P.all.stand in
     let x = extent (names_of ts fs) (listed_nodes c.args.listing.now) F.first_stands in
     let sh = short_at c.args.rule.binds c.args.arm no_slots P.short (omega (arith, P.full, c.requires.few, c.if-arm-rule.false)) in
-    let K = c.slot-codes-bound.ensures.encodes ts B P.all.basis.typed P.code sh in
+    let K = c.slot_codes-bound.ensures.encodes ts B P.all.basis.typed P.code sh in
     let kn = row_length ts _ _ K in
     let bl = bound_length B (get_or c.args.rule.binds c.args.arm no_slots) sh in
     let s = P.all.basis.short in
@@ -333,10 +333,10 @@ judge-arms-extend-all-inner-requires t c =
     let w = c.requires.low in
     let sc = scope_length ts c.args.scope Γ ps P.all.scope in
     let sm = stands_small (names_of ts fs) (listed_nodes c.args.listing.now) F.first_stands in
-    record { few = c.slot-codes-bound.ensures.few; room = omega arith; low = omega arith }
+    record { few = c.slot_codes-bound.ensures.few; room = omega arith; low = omega arith }
 
-pub judge-arms-judge-requires : goal.judge-arms-judge-requires
-judge-arms-judge-requires t c =
+pub judge_arms-judge-requires : goal.judge_arms-judge-requires
+judge_arms-judge-requires t c =
     let q = c.requires.posed in
     let ts = q.ts in
     let fs = q.fs in
@@ -351,14 +351,14 @@ judge-arms-judge-requires t c =
     (ap (map (λ (y : Slots). length Γ + y.count)) z) P.all.stand in
     let x = extent (names_of ts fs) (listed_nodes c.args.listing.now) F.first_stands in
     let sh = short_at c.args.rule.binds c.args.arm no_slots P.short (omega (arith, P.full, c.requires.few, c.if-arm-rule.false)) in
-    let K = c.slot-codes-bound.ensures.encodes ts B P.all.basis.typed P.code sh in
+    let K = c.slot_codes-bound.ensures.encodes ts B P.all.basis.typed P.code sh in
     let kn = row_length ts _ _ K in
     let bl = bound_length B (get_or c.args.rule.binds c.args.arm no_slots) sh in
-    let I = c.extend-all-inner.ensures.scopes ts Γ _ ps P.all.basis.typed K P.all.scope in
-    let O = c.extend-all-inner.ensures.over ts _ P.all.basis.typed K in
+    let I = c.extend_all-inner.ensures.scopes ts Γ _ ps P.all.basis.typed K P.all.scope in
+    let O = c.extend_all-inner.ensures.over ts _ P.all.basis.typed K in
     let st = in_scope Γ _ bl F.first_stands in
     let w = c.requires.low in
-    let nw = row_narrow c.args.listing.now ts P.all.basis.typed c.slot-codes-bound.result _ K in
+    let nw = row_narrow c.args.listing.now ts P.all.basis.typed c.slot_codes-bound.result _ K in
     let s5 = sh.0 in (
       omega (arith, c.decreases),
       (
@@ -370,26 +370,26 @@ judge-arms-judge-requires t c =
       ),
     )
 
-pub judge-arms-returns-in-err-first : goal.judge-arms-returns-in-err-first
-judge-arms-returns-in-err-first t c ts fs Γ ps Ds B es w j P D =
+pub judge_arms-returns-in_err-first : goal.judge_arms-returns-in_err-first
+judge_arms-returns-in_err-first t c ts fs Γ ps Ds B es w j P D =
     let z = arms_first c.args.rule P.full c.requires.few c.args.arm no_slots c.if-arm-rule.false in
     let F = at_first (names_of ts fs) (listed_nodes c.args.listing.now) (length Γ + (get_or c.args.rule.binds c.args.arm no_slots).count) (map (λ (y : Slots). length Γ + y.count) (arms_from c.args.rule (c.args.arm + 1))) _
     (ap (map (λ (y : Slots). length Γ + y.count)) z) P.all.stand in
     let x = extent (names_of ts fs) (listed_nodes c.args.listing.now) F.first_stands in
     let sh = short_at c.args.rule.binds c.args.arm no_slots P.short (omega (arith, P.full, c.requires.few, c.if-arm-rule.false)) in
-    let K = c.slot-codes-bound.ensures.encodes ts B P.all.basis.typed P.code sh in
+    let K = c.slot_codes-bound.ensures.encodes ts B P.all.basis.typed P.code sh in
     let kn = row_length ts _ _ K in
     let bl = bound_length B (get_or c.args.rule.binds c.args.arm no_slots) sh in
-    let I = c.extend-all-inner.ensures.scopes ts Γ _ ps P.all.basis.typed K P.all.scope in
-    let O = c.extend-all-inner.ensures.over ts _ P.all.basis.typed K in
+    let I = c.extend_all-inner.ensures.scopes ts Γ _ ps P.all.basis.typed K P.all.scope in
+    let O = c.extend_all-inner.ensures.over ts _ P.all.basis.typed K in
     let st = in_scope Γ _ bl F.first_stands in
-    let p = err_from_is_err_and c.from-residual.result c.from-residual.ensures.1 in
+    let p = err_from_is_err_and c.from_residual.result c.from_residual.ensures.1 in
     rw (p.1, p.2) (faulted_by
-    (c.in-err-first.ensures ts fs _ _ F.first F.middle (record { basis = P.all.basis; scope = I; stands = st }))
+    (c.in_err-first.ensures ts fs _ _ F.first F.middle (record { basis = P.all.basis; scope = I; stands = st }))
     (first_arm_fault fs Γ w c.args.at F.middle F.first F.rest es _ _ _ F.is (ap (map (slot_types B)) z) x.0))
 
-pub judge-arms-judge-arms-requires : goal.judge-arms-judge-arms-requires
-judge-arms-judge-arms-requires t c =
+pub judge_arms-judge_arms-requires : goal.judge_arms-judge_arms-requires
+judge_arms-judge_arms-requires t c =
     let q = c.requires.posed in
     let ts = q.ts in
     let fs = q.fs in
@@ -404,13 +404,13 @@ judge-arms-judge-arms-requires t c =
     (ap (map (λ (y : Slots). length Γ + y.count)) z) P.all.stand in
     let x = extent (names_of ts fs) (listed_nodes c.args.listing.now) F.first_stands in
     let sh = short_at c.args.rule.binds c.args.arm no_slots P.short (omega (arith, P.full, c.requires.few, c.if-arm-rule.false)) in
-    let K = c.slot-codes-bound.ensures.encodes ts B P.all.basis.typed P.code sh in
+    let K = c.slot_codes-bound.ensures.encodes ts B P.all.basis.typed P.code sh in
     let kn = row_length ts _ _ K in
     let bl = bound_length B (get_or c.args.rule.binds c.args.arm no_slots) sh in
-    let I = c.extend-all-inner.ensures.scopes ts Γ _ ps P.all.basis.typed K P.all.scope in
-    let O = c.extend-all-inner.ensures.over ts _ P.all.basis.typed K in
+    let I = c.extend_all-inner.ensures.scopes ts Γ _ ps P.all.basis.typed K P.all.scope in
+    let O = c.extend_all-inner.ensures.over ts _ P.all.basis.typed K in
     let st = in_scope Γ _ bl F.first_stands in
-    let A = c.in-ok-first.ensures ts fs _ _ F.first F.middle (record { basis = P.all.basis; scope = I; stands = st }) in
+    let A = c.in_ok-first.ensures ts fs _ _ F.first F.middle (record { basis = P.all.basis; scope = I; stands = st }) in
     let s = P.all.basis.short in
     let t = length-take c.args.listing.now.expressions c.args.listing.now.nodes in
     let w = c.requires.low in
@@ -435,52 +435,52 @@ judge-arms-judge-arms-requires t c =
       ),
     )
 
-pub judge-arms-returns-in-err-rest : goal.judge-arms-returns-in-err-rest
-judge-arms-returns-in-err-rest t c ts fs Γ ps Ds B es w j P D =
+pub judge_arms-returns-in_err-rest : goal.judge_arms-returns-in_err-rest
+judge_arms-returns-in_err-rest t c ts fs Γ ps Ds B es w j P D =
     let z = arms_first c.args.rule P.full c.requires.few c.args.arm no_slots c.if-arm-rule.false in
     let F = at_first (names_of ts fs) (listed_nodes c.args.listing.now) (length Γ + (get_or c.args.rule.binds c.args.arm no_slots).count) (map (λ (y : Slots). length Γ + y.count) (arms_from c.args.rule (c.args.arm + 1))) _
     (ap (map (λ (y : Slots). length Γ + y.count)) z) P.all.stand in
     let x = extent (names_of ts fs) (listed_nodes c.args.listing.now) F.first_stands in
     let sh = short_at c.args.rule.binds c.args.arm no_slots P.short (omega (arith, P.full, c.requires.few, c.if-arm-rule.false)) in
-    let K = c.slot-codes-bound.ensures.encodes ts B P.all.basis.typed P.code sh in
+    let K = c.slot_codes-bound.ensures.encodes ts B P.all.basis.typed P.code sh in
     let kn = row_length ts _ _ K in
     let bl = bound_length B (get_or c.args.rule.binds c.args.arm no_slots) sh in
-    let I = c.extend-all-inner.ensures.scopes ts Γ _ ps P.all.basis.typed K P.all.scope in
-    let O = c.extend-all-inner.ensures.over ts _ P.all.basis.typed K in
+    let I = c.extend_all-inner.ensures.scopes ts Γ _ ps P.all.basis.typed K P.all.scope in
+    let O = c.extend_all-inner.ensures.over ts _ P.all.basis.typed K in
     let st = in_scope Γ _ bl F.first_stands in
-    let A = c.in-ok-first.ensures ts fs _ _ F.first F.middle (record { basis = P.all.basis; scope = I; stands = st }) in
-    let p = err_from_is_err_and c.from-residual-in-err-rest.result c.from-residual-in-err-rest.ensures.1 in
+    let A = c.in_ok-first.ensures ts fs _ _ F.first F.middle (record { basis = P.all.basis; scope = I; stands = st }) in
+    let p = err_from_is_err_and c.from_residual-in_err-rest.result c.from_residual-in_err-rest.ensures.1 in
     rw (p.1, p.2) (faulted_by
-    (c.in-err-rest.ensures ts fs Γ ps _ B F.rest w j (record { all = record { basis = P.all.basis; scope = P.all.scope; stand = all_at (names_of ts fs) (listed_nodes c.args.listing.now) (map (λ (y : Slots). length Γ + y.count) (arms_from c.args.rule (c.args.arm + 1))) F.rest A.ends F.rest_stand }; code = P.code; full = P.full; short = P.short }) (c.push-more.ensures.encodes ts Ds A.type D A.code))
-    (λ v i. other_arm_fault fs Γ w c.args.at c.in-ok-first.first.end F.first F.rest es _ _ _ F.is (ap (map (slot_types B)) z) (A.ends ∙ x.0) A.type v i A.typed))
+    (c.in_err-rest.ensures ts fs Γ ps _ B F.rest w j (record { all = record { basis = P.all.basis; scope = P.all.scope; stand = all_at (names_of ts fs) (listed_nodes c.args.listing.now) (map (λ (y : Slots). length Γ + y.count) (arms_from c.args.rule (c.args.arm + 1))) F.rest A.ends F.rest_stand }; code = P.code; full = P.full; short = P.short }) (c.push-more.ensures.encodes ts Ds A.type D A.code))
+    (λ v i. other_arm_fault fs Γ w c.args.at c.in_ok-first.first.end F.first F.rest es _ _ _ F.is (ap (map (slot_types B)) z) (A.ends ∙ x.0) A.type v i A.typed))
 
-pub judge-arms-returns : goal.judge-arms-returns
-judge-arms-returns t c ts fs Γ ps Ds B es w j P D =
+pub judge_arms-returns : goal.judge_arms-returns
+judge_arms-returns t c ts fs Γ ps Ds B es w j P D =
     let z = arms_first c.args.rule P.full c.requires.few c.args.arm no_slots c.if-arm-rule.false in
     let F = at_first (names_of ts fs) (listed_nodes c.args.listing.now) (length Γ + (get_or c.args.rule.binds c.args.arm no_slots).count) (map (λ (y : Slots). length Γ + y.count) (arms_from c.args.rule (c.args.arm + 1))) _
     (ap (map (λ (y : Slots). length Γ + y.count)) z) P.all.stand in
     let x = extent (names_of ts fs) (listed_nodes c.args.listing.now) F.first_stands in
     let sh = short_at c.args.rule.binds c.args.arm no_slots P.short (omega (arith, P.full, c.requires.few, c.if-arm-rule.false)) in
-    let K = c.slot-codes-bound.ensures.encodes ts B P.all.basis.typed P.code sh in
+    let K = c.slot_codes-bound.ensures.encodes ts B P.all.basis.typed P.code sh in
     let kn = row_length ts _ _ K in
     let bl = bound_length B (get_or c.args.rule.binds c.args.arm no_slots) sh in
-    let I = c.extend-all-inner.ensures.scopes ts Γ _ ps P.all.basis.typed K P.all.scope in
-    let O = c.extend-all-inner.ensures.over ts _ P.all.basis.typed K in
+    let I = c.extend_all-inner.ensures.scopes ts Γ _ ps P.all.basis.typed K P.all.scope in
+    let O = c.extend_all-inner.ensures.over ts _ P.all.basis.typed K in
     let st = in_scope Γ _ bl F.first_stands in
-    let A = c.in-ok-first.ensures ts fs _ _ F.first F.middle (record { basis = P.all.basis; scope = I; stands = st }) in
-    let R = c.in-ok-rest.ensures ts fs Γ ps _ B F.rest w j (record { all = record { basis = P.all.basis; scope = P.all.scope; stand = all_at (names_of ts fs) (listed_nodes c.args.listing.now) (map (λ (y : Slots). length Γ + y.count) (arms_from c.args.rule (c.args.arm + 1))) F.rest A.ends F.rest_stand }; code = P.code; full = P.full; short = P.short }) (c.push-more.ensures.encodes ts Ds A.type D A.code) in
-    let y = c.judge-arms.auto.notes in
-    rw c.joined.ensures (arms_pass ts fs Γ ps Ds c.args.at F.middle j c.args.scope.over F.first F.rest es c.args.notes.now c.judge.new.notes c.judge-arms.new.notes
-    c.in-ok-first.first c.in-ok-rest.rest F.is x.0 (omega arith) w c.extend-all-inner.result.over _ _ _ (ap (map (slot_types B)) z) O A R)
+    let A = c.in_ok-first.ensures ts fs _ _ F.first F.middle (record { basis = P.all.basis; scope = I; stands = st }) in
+    let R = c.in_ok-rest.ensures ts fs Γ ps _ B F.rest w j (record { all = record { basis = P.all.basis; scope = P.all.scope; stand = all_at (names_of ts fs) (listed_nodes c.args.listing.now) (map (λ (y : Slots). length Γ + y.count) (arms_from c.args.rule (c.args.arm + 1))) F.rest A.ends F.rest_stand }; code = P.code; full = P.full; short = P.short }) (c.push-more.ensures.encodes ts Ds A.type D A.code) in
+    let y = c.judge_arms.auto.notes in
+    rw c.joined.ensures (arms_pass ts fs Γ ps Ds c.args.at F.middle j c.args.scope.over F.first F.rest es c.args.notes.now c.judge.new.notes c.judge_arms.new.notes
+    c.in_ok-first.first c.in_ok-rest.rest F.is x.0 (omega arith) w c.extend_all-inner.result.over _ _ _ (ap (map (slot_types B)) z) O A R)
 
-pub judge-parts-returns-then-count-eq0 : goal.judge-parts-returns-then-count-eq0
-judge-parts-returns-then-count-eq0 t c ts fs Γ ps Ds es j P D =
+pub judge_parts-returns-then-count-eq0 : goal.judge_parts-returns-then-count-eq0
+judge_parts-returns-then-count-eq0 t c ts fs Γ ps Ds es j P D =
     let Z = at_none (names_of ts fs) (listed_nodes c.args.listing.now) _ (parts_none c.args.count (length Γ) c.if-count-eq0.true) P.stand in
     none_pass ts Ds _ es _ j _ _ _ Z.0 Z.1 (ap (λ (x : Exprs). exprs_verdict fs x c.args.at Γ) Z.0)
     (subst (λ (x : Exprs). LaidAll ts fs c.args.notes.now x c.args.at Γ ps c.args.scope.over []) (sym Z.0) tt) D refl refl refl
 
-pub judge-parts-judge-requires : goal.judge-parts-judge-requires
-judge-parts-judge-requires t c =
+pub judge_parts-judge-requires : goal.judge_parts-judge-requires
+judge_parts-judge-requires t c =
     let q = c.requires.posed in
     let ts = q.ts in
     let fs = q.fs in
@@ -502,17 +502,17 @@ judge-parts-judge-requires t c =
       ),
     )
 
-pub judge-parts-returns-in-err-first : goal.judge-parts-returns-in-err-first
-judge-parts-returns-in-err-first t c ts fs Γ ps Ds es j P D =
+pub judge_parts-returns-in_err-first : goal.judge_parts-returns-in_err-first
+judge_parts-returns-in_err-first t c ts fs Γ ps Ds es j P D =
     let F = at_first (names_of ts fs) (listed_nodes c.args.listing.now) (length Γ) (replicate (c.args.count - 1) (length Γ)) _ (parts_first c.args.count (length Γ) c.if-count-eq0.false) P.stand in
     let x = extent (names_of ts fs) (listed_nodes c.args.listing.now) F.first_stands in
-    let p = err_from_is_err_and c.from-residual.result c.from-residual.ensures.1 in
+    let p = err_from_is_err_and c.from_residual.result c.from_residual.ensures.1 in
     rw (p.1, p.2) (faulted_by
-    (c.in-err-first.ensures ts fs Γ ps F.first F.middle (record { basis = P.basis; scope = P.scope; stands = F.first_stands }))
+    (c.in_err-first.ensures ts fs Γ ps F.first F.middle (record { basis = P.basis; scope = P.scope; stands = F.first_stands }))
     (first_fault fs Γ c.args.at F.middle F.first F.rest es F.is x.0))
 
-pub judge-parts-raise-above-requires : goal.judge-parts-raise-above-requires
-judge-parts-raise-above-requires t c =
+pub judge_parts-raise-above-requires : goal.judge_parts-raise-above-requires
+judge_parts-raise-above-requires t c =
     let q = c.requires.posed in
     let ts = q.ts in
     let fs = q.fs in
@@ -528,8 +528,8 @@ judge-parts-raise-above-requires t c =
     let w = c.requires.low in
     omega arith
 
-pub judge-parts-judge-parts-requires : goal.judge-parts-judge-parts-requires
-judge-parts-judge-parts-requires t c =
+pub judge_parts-judge_parts-requires : goal.judge_parts-judge_parts-requires
+judge_parts-judge_parts-requires t c =
     let q = c.requires.posed in
     let ts = q.ts in
     let fs = q.fs in
@@ -540,7 +540,7 @@ judge-parts-judge-parts-requires t c =
     let P = q.is in
     let F = at_first (names_of ts fs) (listed_nodes c.args.listing.now) (length Γ) (replicate (c.args.count - 1) (length Γ)) _ (parts_first c.args.count (length Γ) c.if-count-eq0.false) P.stand in
     let x = extent (names_of ts fs) (listed_nodes c.args.listing.now) F.first_stands in
-    let A = c.in-ok-first.ensures ts fs Γ ps F.first F.middle (record { basis = P.basis; scope = P.scope; stands = F.first_stands }) in
+    let A = c.in_ok-first.ensures ts fs Γ ps F.first F.middle (record { basis = P.basis; scope = P.scope; stands = F.first_stands }) in
     let n = code_narrow c.args.listing.now ts P.basis.typed _ A.type A.code in
     let o = c.raise-above.ensures.over ts A.type P.basis.typed A.code in
     let s = P.basis.short in
@@ -564,24 +564,24 @@ judge-parts-judge-parts-requires t c =
       ),
     )
 
-pub judge-parts-returns-in-err-rest : goal.judge-parts-returns-in-err-rest
-judge-parts-returns-in-err-rest t c ts fs Γ ps Ds es j P D =
+pub judge_parts-returns-in_err-rest : goal.judge_parts-returns-in_err-rest
+judge_parts-returns-in_err-rest t c ts fs Γ ps Ds es j P D =
     let F = at_first (names_of ts fs) (listed_nodes c.args.listing.now) (length Γ) (replicate (c.args.count - 1) (length Γ)) _ (parts_first c.args.count (length Γ) c.if-count-eq0.false) P.stand in
     let x = extent (names_of ts fs) (listed_nodes c.args.listing.now) F.first_stands in
-    let A = c.in-ok-first.ensures ts fs Γ ps F.first F.middle (record { basis = P.basis; scope = P.scope; stands = F.first_stands }) in
-    let p = err_from_is_err_and c.from-residual-in-err-rest.result c.from-residual-in-err-rest.ensures.1 in
+    let A = c.in_ok-first.ensures ts fs Γ ps F.first F.middle (record { basis = P.basis; scope = P.scope; stands = F.first_stands }) in
+    let p = err_from_is_err_and c.from_residual-in_err-rest.result c.from_residual-in_err-rest.ensures.1 in
     rw (p.1, p.2) (faulted_by
-    (c.in-err-rest.ensures ts fs Γ ps _ F.rest j (record { basis = P.basis; scope = c.raise-above.ensures.scopes ts Γ ps P.scope; stand = all_at (names_of ts fs) (listed_nodes c.args.listing.now) (replicate (c.args.count - 1) (length Γ)) F.rest A.ends F.rest_stand }) (c.push-more.ensures.encodes ts Ds A.type D A.code))
-    (λ w i. rest_fault fs Γ c.args.at c.in-ok-first.first.end F.first F.rest es F.is (A.ends ∙ x.0) A.type w i A.typed))
+    (c.in_err-rest.ensures ts fs Γ ps _ F.rest j (record { basis = P.basis; scope = c.raise-above.ensures.scopes ts Γ ps P.scope; stand = all_at (names_of ts fs) (listed_nodes c.args.listing.now) (replicate (c.args.count - 1) (length Γ)) F.rest A.ends F.rest_stand }) (c.push-more.ensures.encodes ts Ds A.type D A.code))
+    (λ w i. rest_fault fs Γ c.args.at c.in_ok-first.first.end F.first F.rest es F.is (A.ends ∙ x.0) A.type w i A.typed))
 
-pub judge-parts-returns : goal.judge-parts-returns
-judge-parts-returns t c ts fs Γ ps Ds es j P D =
+pub judge_parts-returns : goal.judge_parts-returns
+judge_parts-returns t c ts fs Γ ps Ds es j P D =
     let F = at_first (names_of ts fs) (listed_nodes c.args.listing.now) (length Γ) (replicate (c.args.count - 1) (length Γ)) _ (parts_first c.args.count (length Γ) c.if-count-eq0.false) P.stand in
     let x = extent (names_of ts fs) (listed_nodes c.args.listing.now) F.first_stands in
-    let A = c.in-ok-first.ensures ts fs Γ ps F.first F.middle (record { basis = P.basis; scope = P.scope; stands = F.first_stands }) in
+    let A = c.in_ok-first.ensures ts fs Γ ps F.first F.middle (record { basis = P.basis; scope = P.scope; stands = F.first_stands }) in
     let n = code_narrow c.args.listing.now ts P.basis.typed _ A.type A.code in
     let o = c.raise-above.ensures.over ts A.type P.basis.typed A.code in
-    let R = c.in-ok-rest.ensures ts fs Γ ps _ F.rest j (record { basis = P.basis; scope = c.raise-above.ensures.scopes ts Γ ps P.scope; stand = all_at (names_of ts fs) (listed_nodes c.args.listing.now) (replicate (c.args.count - 1) (length Γ)) F.rest A.ends F.rest_stand }) (c.push-more.ensures.encodes ts Ds A.type D A.code) in
-    let y = c.judge-parts.auto.notes in
-    rw c.joined.ensures (parts_pass ts fs Γ ps Ds c.args.at F.middle j c.args.scope.over F.first F.rest es c.args.notes.now c.judge.new.notes c.judge-parts.new.notes
-    c.in-ok-first.first c.in-ok-rest.rest F.is x.0 (omega arith) c.raise-above.result.over A o R)
+    let R = c.in_ok-rest.ensures ts fs Γ ps _ F.rest j (record { basis = P.basis; scope = c.raise-above.ensures.scopes ts Γ ps P.scope; stand = all_at (names_of ts fs) (listed_nodes c.args.listing.now) (replicate (c.args.count - 1) (length Γ)) F.rest A.ends F.rest_stand }) (c.push-more.ensures.encodes ts Ds A.type D A.code) in
+    let y = c.judge_parts.auto.notes in
+    rw c.joined.ensures (parts_pass ts fs Γ ps Ds c.args.at F.middle j c.args.scope.over F.first F.rest es c.args.notes.now c.judge.new.notes c.judge_parts.new.notes
+    c.in_ok-first.first c.in_ok-rest.rest F.is x.0 (omega arith) c.raise-above.result.over A o R)

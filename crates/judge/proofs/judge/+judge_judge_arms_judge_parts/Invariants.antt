@@ -4,8 +4,8 @@ use Rattle.judge.proofs.judge.+judge_judge_arms_judge_parts.Given as goal
 abbrev pub decreases-judge : goal.decreases-judge
 decreases-judge l = 2 * (l.listing.now.expressions - l.at)
 
-abbrev pub decreases-judge-parts : goal.decreases-judge-parts
-decreases-judge-parts l = 2 * (l.listing.now.expressions - l.at) + 1
+abbrev pub decreases-judge_parts : goal.decreases-judge_parts
+decreases-judge_parts l = 2 * (l.listing.now.expressions - l.at) + 1
 
-abbrev pub decreases-judge-arms : goal.decreases-judge-arms
-decreases-judge-arms l = 2 * (l.listing.now.expressions - l.at) + 1
+abbrev pub decreases-judge_arms : goal.decreases-judge_arms
+decreases-judge_arms l = 2 * (l.listing.now.expressions - l.at) + 1

@@ -8,6 +8,7 @@ use Rattle.lfpl.specs.Syntax.{Ty, same_ty}
 use Rattle.typing.specs.Codes.{Coded}
 use Rattle.judge.specs.Notes.{widths}
 use Rattle.typing.proofs.Coding.{codes_tell}
+use Rattle.judge.proofs.Noting.{laid_body}
 use Rattle.judge.proofs.Passing.{row_narrow, faulted_by, body_noted}
 use Rattle.judge.proofs.judge.judge_body.Goals as goal
 
@@ -15,28 +16,28 @@ pub judge-requires : goal.judge-requires
 judge-requires c =
     let q = c.requires.posed in
     let P = q.is in
-    let K = c.parameter-codes-params.ensures.encodes q.ts _ P.basis.typed P.signs in
-    let n = row_narrow c.args.listing.now q.ts P.basis.typed c.parameter-codes-params.result q.g.params K in
-    let f = c.parameter-codes-params.ensures.few in
-    let z = c.no-variables.ensures.over in
-    let o = c.extend-all-scope.ensures.over q.ts q.g.params P.basis.typed K in
-    let I = c.extend-all-scope.ensures.scopes q.ts [] q.g.params [] P.basis.typed K (c.no-variables.ensures.scopes q.ts) in
+    let K = c.parameter_codes-params.ensures.encodes q.ts _ P.basis.typed P.signs in
+    let n = row_narrow c.args.listing.now q.ts P.basis.typed c.parameter_codes-params.result q.g.params K in
+    let f = c.parameter_codes-params.ensures.few in
+    let z = c.no_variables.ensures.over in
+    let o = c.extend_all-scope.ensures.over q.ts q.g.params P.basis.typed K in
+    let I = c.extend_all-scope.ensures.scopes q.ts [] q.g.params [] P.basis.typed K (c.no_variables.ensures.scopes q.ts) in
     record { long = c.requires.long; low = omega arith; posed = record { ts = q.ts; fs = q.fs; Γ = q.g.params; ps = _; e = q.g.body; j = q.j; is = record { basis = P.basis; scope = I; stands = P.stands } } }
 
-pub returns-in-err-found : goal.returns-in-err-found
-returns-in-err-found c ts fs g j P =
-    let K = c.parameter-codes-params.ensures.encodes ts _ P.basis.typed P.signs in
-    let I = c.extend-all-scope.ensures.scopes ts [] g.params [] P.basis.typed K (c.no-variables.ensures.scopes ts) in
-    let p = err_from_is_err_and c.from-residual.result c.from-residual.ensures.1 in
-    rw (p.1, p.2) (faulted_by (c.in-err-found.ensures ts fs g.params _ g.body j (record { basis = P.basis; scope = I; stands = P.stands }))
+pub returns-in_err-found : goal.returns-in_err-found
+returns-in_err-found c ts fs g j P =
+    let K = c.parameter_codes-params.ensures.encodes ts _ P.basis.typed P.signs in
+    let I = c.extend_all-scope.ensures.scopes ts [] g.params [] P.basis.typed K (c.no_variables.ensures.scopes ts) in
+    let p = err_from_is_err_and c.from_residual.result c.from_residual.ensures.1 in
+    rw (p.1, p.2) (faulted_by (c.in_err-found.ensures ts fs g.params _ g.body j (record { basis = P.basis; scope = I; stands = P.stands }))
     (λ w i e. ap (λ (v : Verdict Ty). v >>= λ A. demand (same_ty A g.result) TypeFault c.args.at tt) e))
 
 pub returns-then-found-result : goal.returns-then-found-result
 returns-then-found-result c ts fs g j P =
-    let K = c.parameter-codes-params.ensures.encodes ts _ P.basis.typed P.signs in
-    let I = c.extend-all-scope.ensures.scopes ts [] g.params [] P.basis.typed K (c.no-variables.ensures.scopes ts) in
-    let A = c.in-ok-found.ensures ts fs g.params _ g.body j (record { basis = P.basis; scope = I; stands = P.stands }) in
-    let r = subst (Coded ts c.code-of-result.result) (sym P.signs.result) (c.code-of-result.ensures ts P.basis.typed P.signs.number) in
+    let K = c.parameter_codes-params.ensures.encodes ts _ P.basis.typed P.signs in
+    let I = c.extend_all-scope.ensures.scopes ts [] g.params [] P.basis.typed K (c.no_variables.ensures.scopes ts) in
+    let A = c.in_ok-found.ensures ts fs g.params _ g.body j (record { basis = P.basis; scope = I; stands = P.stands }) in
+    let r = subst (Coded ts c.code_of-result.result) (sym P.signs.result) (c.code_of-result.ensures ts P.basis.typed P.signs.number) in
     let s = sym (codes_tell c.args.listing.now ts P.basis.typed _ _ A.type g.result A.code r) ∙ ne_eqb _ _ c.if-found-result.true in
     rw c.fault.ensures (record {
       verdict = ap (λ (v : Verdict Ty). v >>= λ A. demand (same_ty A g.result) TypeFault c.args.at tt) A.typed ∙ ap (λ (b : Bool). demand b TypeFault c.args.at tt) s;
@@ -45,18 +46,18 @@ returns-then-found-result c ts fs g j P =
 
 pub returns : goal.returns
 returns c ts fs g j P =
-    let K = c.parameter-codes-params.ensures.encodes ts _ P.basis.typed P.signs in
-    let I = c.extend-all-scope.ensures.scopes ts [] g.params [] P.basis.typed K (c.no-variables.ensures.scopes ts) in
-    let A = c.in-ok-found.ensures ts fs g.params _ g.body j (record { basis = P.basis; scope = I; stands = P.stands }) in
-    let r = subst (Coded ts c.code-of-result.result) (sym P.signs.result) (c.code-of-result.ensures ts P.basis.typed P.signs.number) in
+    let K = c.parameter_codes-params.ensures.encodes ts _ P.basis.typed P.signs in
+    let I = c.extend_all-scope.ensures.scopes ts [] g.params [] P.basis.typed K (c.no_variables.ensures.scopes ts) in
+    let A = c.in_ok-found.ensures ts fs g.params _ g.body j (record { basis = P.basis; scope = I; stands = P.stands }) in
+    let r = subst (Coded ts c.code_of-result.result) (sym P.signs.result) (c.code_of-result.ensures ts P.basis.typed P.signs.number) in
     let s = sym (codes_tell c.args.listing.now ts P.basis.typed _ _ A.type g.result A.code r) ∙ eq-eqb _ _ c.if-found-result.false in
-    let z = c.no-variables.ensures.over in
-    let o = c.extend-all-scope.ensures.over ts g.params P.basis.typed K in
-    let w : c.extend-all-scope.result.over ≡ widths g.params = omega arith in
+    let z = c.no_variables.ensures.over in
+    let o = c.extend_all-scope.ensures.over ts g.params P.basis.typed K in
+    let w : c.extend_all-scope.result.over ≡ widths g.params = omega arith in
     record {
       typed = ap (λ (v : Verdict Ty). v >>= λ A. demand (same_ty A g.result) TypeFault c.args.at tt) A.typed ∙ ap (λ (b : Bool). demand b TypeFault c.args.at tt) s;
       ends = A.ends;
-      noted = laid_body ts fs _ g c.args.at (body_noted ts fs _ g.body c.args.at g.params c.no-variables.result.over c.extend-all-scope.result.over A.type g.result z w (same_eq A.type g.result s) A.laid);
-      laid = body_noted ts fs _ g.body c.args.at g.params c.no-variables.result.over c.extend-all-scope.result.over A.type g.result z w (same_eq A.type g.result s) A.laid;
+      noted = laid_body ts fs _ g c.args.at (body_noted ts fs _ g.body c.args.at g.params c.no_variables.result.over c.extend_all-scope.result.over A.type g.result z w (same_eq A.type g.result s) A.laid);
+      laid = body_noted ts fs _ g.body c.args.at g.params c.no_variables.result.over c.extend_all-scope.result.over A.type g.result z w (same_eq A.type g.result s) A.laid;
       earlier = A.earlier;
     }

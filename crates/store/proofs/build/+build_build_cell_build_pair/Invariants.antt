@@ -4,8 +4,8 @@ use Rattle.store.proofs.build.+build_build_cell_build_pair.Given as goal
 abbrev pub decreases-build : goal.decreases-build
 decreases-build g l = 512 * (length l.bytes.now - l.at) + (2 * l.t + 2)
 
-abbrev pub decreases-build-cell : goal.decreases-build-cell
-decreases-build-cell g l = 512 * (length l.bytes.now - l.at) + (2 * l.t + 3)
+abbrev pub decreases-build_cell : goal.decreases-build_cell
+decreases-build_cell g l = 512 * (length l.bytes.now - l.at) + (2 * l.t + 3)
 
-abbrev pub decreases-build-pair : goal.decreases-build-pair
-decreases-build-pair g l = 512 * (length l.bytes.now - l.at) + (2 * max l.first l.second + 3)
+abbrev pub decreases-build_pair : goal.decreases-build_pair
+decreases-build_pair g l = 512 * (length l.bytes.now - l.at) + (2 * max l.first l.second + 3)

@@ -15,5 +15,5 @@ returns g c ts T v s k h =
     let n : length fp ≤ 512 = omega (arith, holds_charge m A v ws 0, k) in
     let p = c.collect-count.ensures.cells ts T v s k (omega (arith, n)) in
     let e : take c.collect-count.result c.collect-count.new.cells ≡ fp = placed_first fp _ _ c.collect-count.result n p.0 p.1 in
-    subst (λ xs. Released m xs (g.P.Pool.means c.give-all.new.pool)) e
-    (c.give-all.ensures (λ i. omega (arith, ap (occ i) e, h i, shown_used m A v ws 0 s i)))
+    subst (λ xs. Released m xs (g.P.Pool.means c.give_all.new.pool)) e
+    (c.give_all.ensures (λ i. omega (arith, ap (occ i) e, h i, shown_used m A v ws 0 s i)))

@@ -7,12 +7,12 @@ use Rattle.store.proofs.Tops.{never}
 use Rattle.store.proofs.Uniques.{one_value}
 use Rattle.store.proofs.show.show.Goals as goal
 
-pub returns-then-too-short : goal.returns-then-too-short
-returns-then-too-short g c = record {
+pub returns-then-too_short : goal.returns-then-too_short
+returns-then-too_short g c = record {
   written = λ ts T v s k.
       let a = c.walk.ensures ts T v s k in
       let few : length c.args.area.now < 2 ^ 63 = omega arith in
-      (omega (arith, a, few, ltb-true (length c.args.area.now) c.walk.new.sink.count (sym c.too-short.ensures ∙ c.if-too-short.true)), refl);
+      (omega (arith, a, few, ltb-true (length c.args.area.now) c.walk.new.sink.count (sym c.too_short.ensures ∙ c.if-too_short.true)), refl);
   left = λ _. refl;
   again = reads_back;
   one = one_value;
@@ -25,8 +25,8 @@ returns g c = record {
       let a = c.walk.ensures ts T v s k in
       let b = c.walk-2.ensures ts T v s k in
       let few : length c.args.area.now < 2 ^ 63 = omega arith in
-      let n : c.walk.new.sink.count ≡ length xs = omega (arith, a, few, ltb-false (length c.args.area.now) c.walk.new.sink.count (sym c.too-short.ensures ∙ c.if-too-short.false)) in
-      let l : length xs ≤ length c.args.area.now = omega (arith, n, ltb-false (length c.args.area.now) c.walk.new.sink.count (sym c.too-short.ensures ∙ c.if-too-short.false)) in
+      let n : c.walk.new.sink.count ≡ length xs = omega (arith, a, few, ltb-false (length c.args.area.now) c.walk.new.sink.count (sym c.too_short.ensures ∙ c.if-too_short.false)) in
+      let l : length xs ≤ length c.args.area.now = omega (arith, n, ltb-false (length c.args.area.now) c.walk.new.sink.count (sym c.too_short.ensures ∙ c.if-too_short.false)) in
       let b₀ = sym b.0 in
       let b₁ = (b.1 (omega (arith, l))).0 ∙ sets_first xs c.args.area.now l in
       (n, l, search (rules, b₀, b₁));

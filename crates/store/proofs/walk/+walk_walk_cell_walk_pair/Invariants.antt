@@ -4,8 +4,8 @@ use Rattle.store.proofs.walk.+walk_walk_cell_walk_pair.Given as goal
 abbrev pub decreases-walk : goal.decreases-walk
 decreases-walk g l = 512 * l.left + (2 * l.t + 2)
 
-abbrev pub decreases-walk-cell : goal.decreases-walk-cell
-decreases-walk-cell g l = 512 * l.left + 1
+abbrev pub decreases-walk_cell : goal.decreases-walk_cell
+decreases-walk_cell g l = 512 * l.left + 1
 
-abbrev pub decreases-walk-pair : goal.decreases-walk-pair
-decreases-walk-pair g l = 512 * l.left + (2 * max l.first l.second + 3)
+abbrev pub decreases-walk_pair : goal.decreases-walk_pair
+decreases-walk_pair g l = 512 * l.left + (2 * max l.first l.second + 3)

@@ -8,10 +8,10 @@ loop-k-preserved g c =
     let i = c.loop-k.invariant in
     let ws = c.loop-k.words in
     let k = c.loop-k.k in
-    let w = read_word (g.P.Pool.means c.args.pool.now) c.args.cell k _ _ c.loop-k-test.true refl c.word-of.ensures in (
-      length-set ws k c.word-of.result ∙ i.0,
-      below_more _ _ (λ j h. get_or-set_other ws k j c.word-of.result 0 (λ q. omega arith) ∙ i.1 j h)
-          (get_or-set_same ws k c.word-of.result 0 (omega (arith, i.0, c.loop-k-test.true)) ∙ w),
+    let w = read_word (g.P.Pool.means c.args.pool.now) c.args.cell k _ _ c.loop-k-test.true refl c.word_of.ensures in (
+      length-set ws k c.word_of.result ∙ i.0,
+      below_more _ _ (λ j h. get_or-set_other ws k j c.word_of.result 0 (λ q. omega arith) ∙ i.1 j h)
+          (get_or-set_same ws k c.word_of.result 0 (omega (arith, i.0, c.loop-k-test.true)) ∙ w),
     )
 
 pub returns : goal.returns

@@ -25,10 +25,10 @@ pub returns : goal.returns
 returns c =
     let scope = c.args.scope in
     let left = 512 - c.args.count in
-    let h = unhindered scope c.args.count c.in-default.ensures in
+    let h = unhindered scope c.args.count c.in_default.ensures in
     let z : 0 < 512 - c.args.count = omega (arith, h) in
     record {
-      gives = λ ns k. gives_as (kind_at ns scope) (head_at ns left scope) (Begins ns scope) c.args.cursor.now c.read-node.new.cursor c.read-node.result
-          (λ bs p. begin_node ns left scope bs p h.0 z) (c.read-node.ensures ns k);
-      bound = made_all c.read-node.result h;
+      gives = λ ns k. gives_as (kind_at ns scope) (head_at ns left scope) (Begins ns scope) c.args.cursor.now c.read_node.new.cursor c.read_node.result
+          (λ bs p. begin_node ns left scope bs p h.0 z) (c.read_node.ensures ns k);
+      bound = made_all c.read_node.result h;
     }

@@ -9,14 +9,14 @@ use Rattle.tables.proofs.expressions.expressions.Goals as goal
 
 pub loop-o-init : goal.loop-o-init
 loop-o-init c =
-    let e = c.pile-bodies.ensures in
+    let e = c.pile_bodies.ensures in
     let b = c.args.cursor.now in
     let xs = c.args.nodes.now in
     (c.requires.nodes, omega arith, e.deep, e.sound, e.room, λ ns k. subst (λ w. Underway ns b 0 xs w b) (k.arities ∙ sym e.waiting) (underway_begins ns b xs))
 
-pub returns-in-err-x : goal.returns-in-err-x
-returns-in-err-x c =
-    let p = err_from_is_err_and c.from-residual.result c.from-residual.ensures.1 in
+pub returns-in_err-x : goal.returns-in_err-x
+returns-in_err-x c =
+    let p = err_from_is_err_and c.from_residual.result c.from_residual.ensures.1 in
     let os = held c.pop.new.self in
     let rest = c.in-Some-next.rest in
     let n = c.in-Some-next.scope in
@@ -26,17 +26,17 @@ returns-in-err-x c =
       gives = λ ns k.
           underway_breaks ns c.args.cursor.now c.loop-o.count c.loop-o.nodes n (waiting (rest ∷ os)) c.loop-o.cursor
           (subst (λ w. Underway ns c.args.cursor.now c.loop-o.count c.loop-o.nodes w c.loop-o.cursor) w (c.loop-o.invariant.5 ns k))
-          c.in-err-x.field-0.0 c.begin.new.cursor (c.in-err-x.ensures.gives ns k);
+          c.in_err-x.field-0.0 c.begin.new.cursor (c.in_err-x.ensures.gives ns k);
       bound = tt;
     }
 
 pub loop-o-preserved-in-Some-next : goal.loop-o-preserved-in-Some-next
 loop-o-preserved-in-Some-next c =
     let s = c.loop-o.invariant in
-    let x = c.in-ok-x.x in
+    let x = c.in_ok-x.x in
     let count = c.loop-o.count in
     let nodes = c.loop-o.nodes in
-    let b = c.in-ok-x.ensures.bound in
+    let b = c.in_ok-x.ensures.bound in
     let os = held c.pop.new.self in
     let rest = c.in-Some-next.rest in
     let n = c.in-Some-next.scope in
@@ -59,7 +59,7 @@ loop-o-preserved-in-Some-next c =
           (c.opened.ensures ns.types ∙ ap (λ l. inner l (head_of ns.types x) n) (sym k.arities)))
           (underway_opens ns c.args.cursor.now count nodes n (waiting (rest ∷ os)) c.loop-o.cursor
           (subst (λ w. Underway ns c.args.cursor.now count nodes w c.loop-o.cursor) w (s.5 ns k))
-          x c.begin.new.cursor (c.in-ok-x.ensures.gives ns k) s.0 b.1 b.0),
+          x c.begin.new.cursor (c.in_ok-x.ensures.gives ns k) s.0 b.1 b.0),
     )
 
 pub loop-o-preserved : goal.loop-o-preserved
@@ -72,7 +72,7 @@ loop-o-preserved c =
       c.pop.ensures.sound,
       c.pop.ensures.room ∙ s.4,
       λ ns k. subst (λ w. Underway ns c.args.cursor.now c.loop-o.count c.loop-o.nodes w c.loop-o.cursor)
-          (nothing_comes (held c.loop-o.pile) c.in-Some.o (held c.pop.new.self) e c.in-default-next.ensures) (s.5 ns k),
+          (nothing_comes (held c.loop-o.pile) c.in-Some.o (held c.pop.new.self) e c.in_default-next.ensures) (s.5 ns k),
     )
 
 pub returns : goal.returns
@@ -80,7 +80,7 @@ returns c =
     let s = c.loop-o.invariant in
     record {
       gives = λ ns k. underway_ends ns c.args.cursor.now c.loop-o.count c.loop-o.nodes c.loop-o.cursor
-          (subst (λ w. Underway ns c.args.cursor.now c.loop-o.count c.loop-o.nodes w c.loop-o.cursor) (waiting_none (held c.loop-o.pile) c.in-default.ensures.held.0) (s.5 ns k))
+          (subst (λ w. Underway ns c.args.cursor.now c.loop-o.count c.loop-o.nodes w c.loop-o.cursor) (waiting_none (held c.loop-o.pile) c.in_default.ensures.held.0) (s.5 ns k))
           s.0 s.1;
       bound = s.1;
     }

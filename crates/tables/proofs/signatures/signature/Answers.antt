@@ -8,35 +8,35 @@ use Rattle.tables.proofs.Givings.{break, on}
 use Rattle.tables.proofs.Signed.{result_at, signature_is, type_breaks, type_read}
 use Rattle.tables.proofs.signatures.signature.Goals as goal
 
-pub returns-in-err-arity : goal.returns-in-err-arity
-returns-in-err-arity c =
-    let p = err_from_is_err_and c.from-residual.result c.from-residual.ensures.1 in
+pub returns-in_err-arity : goal.returns-in_err-arity
+returns-in_err-arity c =
+    let p = err_from_is_err_and c.from_residual.result c.from_residual.ensures.1 in
     rw (p.1, p.2)
     record {
-      gives = λ ts l. takes_break (parameters_at ts) (signature_at ts) (result_at ts) c.args.cursor.now (signature_is ts _ _) c.parameters.new.cursor c.in-err-arity.field-0.0 (c.in-err-arity.ensures.gives ts l);
+      gives = λ ts l. takes_break (parameters_at ts) (signature_at ts) (result_at ts) c.args.cursor.now (signature_is ts _ _) c.parameters.new.cursor c.in_err-arity.field-0.0 (c.in_err-arity.ensures.gives ts l);
       bound = tt;
     }
 
-pub returns-in-err-result : goal.returns-in-err-result
-returns-in-err-result c =
-    let p = err_from_is_err_and c.from-residual-in-err-result.result c.from-residual-in-err-result.ensures.1 in
+pub returns-in_err-result : goal.returns-in_err-result
+returns-in_err-result c =
+    let p = err_from_is_err_and c.from_residual-in_err-result.result c.from_residual-in_err-result.ensures.1 in
     rw (p.1, p.2)
     record {
       gives = λ ts l.
-          let a = c.in-ok-arity.ensures.gives ts l in
+          let a = c.in_ok-arity.ensures.gives ts l in
           takes_on (parameters_at ts) (signature_at ts) (result_at ts) c.args.cursor.now (signature_is ts _ _) c.parameters.new.cursor a.0 a.1 _ _
-          (break (type_ref ts) (λ B. pure (record { params = a.0; result = B })) c.in-err-result.field-0.0 (type_breaks ts c.args.types c.in-err-result.field-0.0 l c.in-err-result.ensures.takes));
+          (break (type_ref ts) (λ B. pure (record { params = a.0; result = B })) c.in_err-result.field-0.0 (type_breaks ts c.args.types c.in_err-result.field-0.0 l c.in_err-result.ensures.takes));
       bound = tt;
     }
 
 pub returns : goal.returns
 returns c =
-    let j = c.in-ok-result.field-0 in
-    let e = c.in-ok-result.ensures in
-    let few = c.in-ok-arity.ensures.bound in
+    let j = c.in_ok-result.field-0 in
+    let e = c.in_ok-result.ensures in
+    let few = c.in_ok-arity.ensures.bound in
     record {
       gives = λ ts l.
-          let a = c.in-ok-arity.ensures.gives ts l in
+          let a = c.in_ok-arity.ensures.gives ts l in
           let s : Signature = record { params = a.0; result = type_at ts j } in (
             s,
             takes_on (parameters_at ts) (signature_at ts) (result_at ts) c.args.cursor.now (signature_is ts _ _) c.parameters.new.cursor a.0 a.1 _ _

@@ -7,5 +7,5 @@ returns-in-Number c ts t h = number_code c.args.listing.now ts t c.args.i _ h c.
 pub returns-in-Diamond : goal.returns-in-Diamond
 returns-in-Diamond c ts t h = diamond_code c.args.listing.now ts t c.args.i _ h c.in-Diamond.is
 
-pub returns-in-default : goal.returns-in-default
-returns-in-default c ts t h = other_code c.args.listing.now ts t c.args.i _ h c.in-default.not-Number c.in-default.not-Diamond
+pub returns-in_default : goal.returns-in_default
+returns-in_default c ts t h = other_code c.args.listing.now ts t c.args.i _ h c.in_default.not-Number c.in_default.not-Diamond

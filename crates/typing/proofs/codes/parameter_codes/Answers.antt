@@ -14,7 +14,7 @@ loop-k-preserved c =
           let k : c.loop-k.k < 6 = omega arith in
           let i : c.loop-k.k < c.args.signature.arity = omega arith in
           row_more (type_at ts) c.args.signature.params ts c.loop-k.k 0 c.loop-k.row c.push-row.result _ (omega arith) (c.loop-k.invariant.1 ts s t g)
-          (λ As B. c.push-row.ensures.encodes ts As B) (c.code-of.ensures ts t (numbers_at ts c.args.signature.params _ c.loop-k.k 0 g.numbers i (omega arith))),
+          (λ As B. c.push-row.ensures.encodes ts As B) (c.code_of.ensures ts t (numbers_at ts c.args.signature.params _ c.loop-k.k 0 g.numbers i (omega arith))),
     )
 
 pub returns : goal.returns

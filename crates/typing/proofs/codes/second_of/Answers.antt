@@ -5,8 +5,8 @@ use Rattle.typing.proofs.codes.second_of.Goals as goal
 
 pub returns-in-Pair : goal.returns-in-Pair
 returns-in-Pair c ts A t h =
-    let e = second_entry ts A _ (c.entry-of-entry.ensures ts A t h) c.in-Pair.is in
-    subst (Coded ts c.code-of.result) e.1 (c.code-of.ensures ts t e.0)
+    let e = second_entry ts A _ (c.entry_of-entry.ensures ts A t h) c.in-Pair.is in
+    subst (Coded ts c.code_of.result) e.1 (c.code_of.ensures ts t e.0)
 
-pub returns-in-default : goal.returns-in-default
-returns-in-default c ts A t h = no_second ts A _ (c.entry-of-entry.ensures ts A t h) c.in-default.not-Pair c.in-default.not-Sum
+pub returns-in_default : goal.returns-in_default
+returns-in_default c ts A t h = no_second ts A _ (c.entry_of-entry.ensures ts A t h) c.in_default.not-Pair c.in_default.not-Sum

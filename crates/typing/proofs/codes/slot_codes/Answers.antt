@@ -12,7 +12,7 @@ loop-k-preserved c =
           let l = s.1 in
           let k : c.loop-k.k < 5 = omega arith in
           row_more (slot_type A) c.args.asked.slots ts c.loop-k.k _ c.loop-k.row c.push-row.result _ (omega arith) (c.loop-k.invariant.1 ts A t h s)
-          (λ As B. c.push-row.ensures.encodes ts As B) (c.slot-code.ensures ts A t h),
+          (λ As B. c.push-row.ensures.encodes ts As B) (c.slot_code.ensures ts A t h),
     )
 
 pub returns : goal.returns

@@ -6,8 +6,8 @@ use Rattle.typing.proofs.rules.parts_of.Goals as goal
 
 pub returns-in-Result : goal.returns-in-Result
 returns-in-Result c ts fs Γ n b k =
-    arity_is ts c.signature-of.result _ (c.signature-of.ensures ts fs b (subst (λ (a : About). Known ts fs Γ c.args.number a n) c.in-Result.is k))
+    arity_is ts c.signature_of.result _ (c.signature_of.ensures ts fs b (subst (λ (a : About). Known ts fs Γ c.args.number a n) c.in-Result.is k))
     ∙ sym (ap (λ (a : About). parts_of fs c.args.number a c.args.rule.wants) c.in-Result.is)
 
-pub returns-in-default : goal.returns-in-default
-returns-in-default c ts fs Γ n b k = parts_by_slots fs c.args.number c.args.rule.about c.args.rule.wants c.in-default.not-Result
+pub returns-in_default : goal.returns-in_default
+returns-in_default c ts fs Γ n b k = parts_by_slots fs c.args.number c.args.rule.about c.args.rule.wants c.in_default.not-Result

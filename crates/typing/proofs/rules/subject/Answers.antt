@@ -13,7 +13,7 @@ returns-in-Listed c ts fs Γ As ps b s e k =
     let n = short c.args.listing.now ts b.typed in
     let i : c.args.number < length ts = h in
     let q : c.args.number % 64 ≡ c.args.number = mod-eq_of_lt (omega arith) in
-    subst (λ (j : ℕ). Coded ts c.code-of.result (type_at ts j)) q (c.code-of.ensures ts b.typed (omega arith))) k
+    subst (λ (j : ℕ). Coded ts c.code_of.result (type_at ts j)) q (c.code_of.ensures ts b.typed (omega arith))) k
 
 pub returns-in-Part : goal.returns-in-Part
 returns-in-Part c ts fs Γ As ps b s e k =
@@ -32,4 +32,4 @@ returns-in-Variable c ts fs Γ As ps b s e k =
 pub returns-in-Result : goal.returns-in-Result
 returns-in-Result c ts fs Γ As ps b s e k =
     about_by ts fs Γ c.args.number As _ _ _ c.in-Result.is
-    (λ h. let g = c.signature-of.ensures ts fs b h in subst (Coded ts c.code-of-in-Result.result) (sym g.result) (c.code-of-in-Result.ensures ts b.typed g.number)) k
+    (λ h. let g = c.signature_of.ensures ts fs b h in subst (Coded ts c.code_of-in-Result.result) (sym g.result) (c.code_of-in-Result.ensures ts b.typed g.number)) k

@@ -9,17 +9,17 @@ pub returns-in-Result : goal.returns-in-Result
 returns-in-Result c =
     record {
       wants = λ ts fs Γ A n b k s h.
-          let g = c.signature-of.ensures ts fs b (subst (λ (a : About). Known ts fs Γ c.args.number a n) c.in-Result.is k) in
-          subst (λ (a : About). Encodes ts c.parameter-codes.result (wanted fs c.args.number a c.args.rule.wants A)) (sym c.in-Result.is)
-          (c.parameter-codes.ensures.encodes ts _ b.typed g);
-      few = c.parameter-codes.ensures.few;
+          let g = c.signature_of.ensures ts fs b (subst (λ (a : About). Known ts fs Γ c.args.number a n) c.in-Result.is k) in
+          subst (λ (a : About). Encodes ts c.parameter_codes.result (wanted fs c.args.number a c.args.rule.wants A)) (sym c.in-Result.is)
+          (c.parameter_codes.ensures.encodes ts _ b.typed g);
+      few = c.parameter_codes.ensures.few;
     }
 
-pub returns-in-default : goal.returns-in-default
-returns-in-default c =
+pub returns-in_default : goal.returns-in_default
+returns-in_default c =
     record {
       wants = λ ts fs Γ A n b k s h.
-          subst (Encodes ts c.slot-codes.result) (wants_by_slots fs c.args.number c.args.rule.about c.args.rule.wants A c.in-default.not-Result)
-          (c.slot-codes.ensures.encodes ts A b.typed h s);
-      few = c.slot-codes.ensures.few;
+          subst (Encodes ts c.slot_codes.result) (wants_by_slots fs c.args.number c.args.rule.about c.args.rule.wants A c.in_default.not-Result)
+          (c.slot_codes.ensures.encodes ts A b.typed h s);
+      few = c.slot_codes.ensures.few;
     }

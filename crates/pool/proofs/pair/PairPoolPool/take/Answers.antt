@@ -5,4 +5,4 @@ pub returns-in-Some : goal.returns-in-Some
 returns-in-Some g c = take_left _ _ _ _ c.in-Some.ensures
 
 pub returns-in-Some-take : goal.returns-in-Some-take
-returns-in-Some-take g c = take_right _ _ _ c.bound-base.ensures _ _ _ c.in-default.ensures c.if-not-joined.ensures c.in-Some-take.ensures
+returns-in-Some-take g c = take_right _ _ _ c.bound-base.ensures _ _ _ c.in_default.ensures c.if-not-joined.ensures c.in-Some-take.ensures
