@@ -205,7 +205,7 @@ module _ (t : Table) (ts : List Ty) (fs : List Fun) (code : Code) (basis : Basis
           d.1,
           sits n x es qs Γ ps over d.0 d.1 W l f low d.2 d.3 d.4,
           ends n x es qs Γ ps over d.0 d.1 W l f low d.2 d.3 d.4,
-          apart Γ es qs d.2.apart,
+          apart Γ es qs d.2.noted.apart,
           stood_all s Γ ps over d.0 low d.3,
           subst (λ (y : ℕ). standing.StandsArms fs code qs y (rule fs Γ (head_of ts x) d.0).arms Γ ps over d.1) p.0
               (stood_arms q (rule fs Γ (head_of ts x) d.0).arms Γ ps over d.1 low

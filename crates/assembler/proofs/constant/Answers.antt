@@ -7,4 +7,4 @@ word_is : (r : ℕ) (z y : ℤ) → SFits w32 z → z ≡ y → r ≡ of_z w32 (
 word_is r z y f p e = e ∙ ap (of_z w32) (to_z-of_z w32 z f ∙ sym (int_wrap_fits w32 z f) ∙ ap wrap p)
 
 pub returns : goal.returns
-returns c = word_is _ _ _ (record { sfits = c.unzigzag-integer.type-inv }) c.unzigzag-integer.ensures.integer c.cast-unsigned.ensures
+returns c = word_is _ _ _ (record { sfits = c.unzigzag-integer.type_inv }) c.unzigzag-integer.ensures.integer c.cast_unsigned.ensures

@@ -10,5 +10,5 @@ loop-f-preserved c =
     let e : c.loop-f.f % 32 ≡ c.loop-f.f = omega (arith, c.loop-f-test.true) in (
       n ∙ i.0,
       filled (λ k x. x ≡ word_of (get_or c.args.table.now.starts k 0)) c.loop-f.starts c.loop-f.f c.word.result 0 (omega (arith, i.0, c.loop-f-test.true)) i.1
-          (c.word.ensures ∙ ap word_of (c.start.ensures ∙ ap (λ (k : ℕ). get_or c.args.table.now.starts k 0) e)),
+          (c.word.ensures ∙ ap word_of (c.start.ensures.number ∙ ap (λ (k : ℕ). get_or c.args.table.now.starts k 0) e)),
     )

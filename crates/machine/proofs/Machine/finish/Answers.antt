@@ -24,4 +24,4 @@ returns g c p code v ts T d E l =
     let short : length fp ≤ 512 = omega (arith, holds_charge m A v ws 0, k) in
     let q = c.collect-n.ensures.cells ts T v r.shows k (omega (arith, short)) in
     let e : take c.collect-n.result c.collect-n.new.cells ≡ fp = placed_first fp _ _ c.collect-n.result short q.0 q.1 in
-    ended m _ (own x) (take c.collect-n.result c.collect-n.new.cells) A v ws r e (c.give-rest.ensures (omega (arith, q.1, short)) (λ i. omega (arith, ap (occ i) e, r.owned i)) r.once)
+    ended m _ (own x) (take c.collect-n.result c.collect-n.new.cells) A v ws r e (c.give_rest.ensures (omega (arith, q.1, short)) (λ i. omega (arith, ap (occ i) e, r.owned i)) r.once)

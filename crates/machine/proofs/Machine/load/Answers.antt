@@ -18,6 +18,6 @@ returns g c ts v xs T s l near few =
     let w = width_is es ts T t c.requires.known in
     let n : width A ≤ 16 = omega (arith, w, wide_most es ts T t c.requires.known) in
     let k : charge v ≤ 512 = omega arith in
-    load_more (g.P.Pool.means c.args.pool.now) c.args.self.now xs A v ws c.put-words.new.into c.collect-self.new.cells c.collect-self.result _ l s n near few
-    (subst (λ q. Put c.args.self.now.words q ws c.put-words.new.into) at c.put-words.ensures) (c.collect-self.ensures.cells ts T v s k)
+    load_more (g.P.Pool.means c.args.pool.now) c.args.self.now xs A v ws c.put_words.new.into c.collect-self.new.cells c.collect-self.result _ l s n near few
+    (subst (λ q. Put c.args.self.now.words q ws c.put_words.new.into) at c.put_words.ensures) (c.collect-self.ensures.cells ts T v s k)
     (read_width es ts t _ _ _ T c.requires.known at)

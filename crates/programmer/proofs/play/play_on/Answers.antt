@@ -28,5 +28,5 @@ loop-i-preserved g c =
 
 pub returns : goal.returns
 returns g c = λ made e a.
-    subst (λ (cs : List code.Call). History g.P.Pool.means made (opened c.args.cells c.args.box-number) (length c.args.area.now) cs c.loop-i.programmer)
+    subst (λ (cs : List code.Call). History g.P.Pool.means made (opened c.args.cells c.args.box_number) (length c.args.area.now) cs c.loop-i.programmer)
     (take_all c.loop-i.i c.args.calls.now c.loop-i-test.false) (c.loop-i.invariant.1 made e a).history

@@ -9,5 +9,5 @@ use Rattle.programmer.proofs.play.play_on.Given as goal
 abbrev pub invariant-loop-i : goal.invariant-loop-i
 invariant-loop-i g l =
     (length l.area ≡ l.room)
-    × ((made : Meaning) → made.free ≡ l.cells → Agrees made (opened l.cells l.box-number) (g.P.Pool.means l.initial.programmer.pool) (view l.initial.programmer)
-    → SoFar g.P.Pool.means made (opened l.cells l.box-number) l.room (take l.i l.calls) l.programmer)
+    × ((made : Meaning) → made.free ≡ l.cells → Agrees made (opened l.cells l.box_number) (g.P.Pool.means l.initial.programmer.pool) (view l.initial.programmer)
+    → SoFar g.P.Pool.means made (opened l.cells l.box_number) l.room (take l.i l.calls) l.programmer)
