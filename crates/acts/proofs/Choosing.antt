@@ -5,7 +5,7 @@ use Rattle.std.proofs.lemmas.Bool.{cond-false, ne_eqb, leb-true}
 use Rattle.lfpl.specs.Reading.{roomy}
 use Rattle.lfpl.specs.Syntax.{Ty, int, diamond, list_of, tree_of, pair_of, sum_of, width, first, second, Head, guard, case_pair, case_sum, case_list, caseTree, Exprs, Fun}
 use Rattle.lfpl.specs.Typing.{type_at, opened, rule}
-use Rattle.lfpl.specs.Values.{Val, dia, cons, node, left, right, Typed, ◌of◌}
+use Rattle.lfpl.specs.Values.{Val, dia, cons, node, Typed, ◌of◌}
 use Rattle.lfpl.proofs.SameTypes.{same_eq}
 use Rattle.meaning.specs.Act.{arm, unmake, types}
 use Rattle.meaning.specs.Mean.{widths}

@@ -1,5 +1,5 @@
 -- What a push and a pop do to what a pile holds.
-use Rattle.std.proofs.Common.{◌≡◌, ℕ, ◌+◌, ◌-◌, ◌<◌, ◌≤◌, List, [], ◌∷◌, reverse, length, get_or, take, set, refl, ap, ◌∙◌}
+use Rattle.std.proofs.Common.{◌≡◌, ℕ, ◌+◌, ◌<◌, ◌≤◌, List, [], ◌∷◌, reverse, length, get_or, take, set, refl, ap, ◌∙◌}
 use Rattle.std.proofs.lemmas.List.{take_more_set, take_more, reverse-append, length-reverse, length-take-le}
 use Rattle.codec.specs.Stack.{top_first}
 

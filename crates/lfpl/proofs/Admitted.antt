@@ -1,5 +1,5 @@
 -- A table is admitted exactly when its bytes spell a well-typed program.
-use Rattle.std.proofs.Common.{◌≡◌, ℕ, List, Ok, Err, Result, sym, refl, ap, ◌∙◌, arith}
+use Rattle.std.proofs.Common.{◌≡◌, ℕ, List, Ok, Result, sym, refl, ap, ◌∙◌, arith}
 use Rattle.codec.specs.Reading.{Scan, done, refused}
 use Rattle.codec.specs.declared.fault.Fault.{Fault}
 use Rattle.lfpl.specs.Syntax.{Program}

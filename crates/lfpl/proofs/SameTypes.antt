@@ -1,5 +1,5 @@
 -- The tests that compare types answer true exactly at equal types.
-use Rattle.std.proofs.Common.{◌≡◌, true, false, List, [], ◌∷◌, refl, ap₂}
+use Rattle.std.proofs.Common.{◌≡◌, true, List, [], ◌∷◌, refl, ap₂}
 use mathlib.Core.Bool.{false≢true}
 use Rattle.std.proofs.lemmas.Bool.{and_parts, and_from}
 use Rattle.lfpl.specs.Syntax.{Ty, decided, same_ty, Ty-discrete}

@@ -1,10 +1,10 @@
 -- What is read of an expression is what its rule asks.
-use Rattle.std.proofs.Common.{◌≡◌, ℕ, ◌<◌, true, List, [], ◌∷◌, map, length, get_or, sym, refl, ap, ◌∙◌}
+use Rattle.std.proofs.Common.{◌≡◌, ℕ, ◌<◌, true, List, map, length, get_or, sym, refl, ap, ◌∙◌}
 use Rattle.std.proofs.lemmas.List.{get_or-map}
 use Rattle.std.proofs.lemmas.Bool.{and_parts, ltb-true}
 use Rattle.lfpl.specs.Syntax.{Ty, Head, var, call, const, apply, guard, mk_pair, case_pair, mkLeft, mkRight, case_sum, mk_nil, mkCons, case_list, mk_leaf, mkNode, caseTree, Fun}
-use Rattle.lfpl.specs.Typing.{rule, Rule, opened, fun_at}
-use Rattle.lfpl.specs.Reading.{shape, Shape}
+use Rattle.lfpl.specs.Typing.{rule, opened, fun_at}
+use Rattle.lfpl.specs.Reading.{shape}
 use Rattle.lfpl.specs.Laws.{ShapesAreTheRules}
 use Rattle.lfpl.proofs.SameTypes.{same_eq, sames_eq}
 

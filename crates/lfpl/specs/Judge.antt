@@ -1,9 +1,9 @@
 -- The judgement of a program: each body's type, or the first fault with the number of its expression.
-use Rattle.std.specs.Prelude.{ℕ, zero, suc, ◌+◌, Bool, true, false, not, ◌&&◌, ◌||◌, List, [], ◌∷◌, ◌++◌, nat_le}
+use Rattle.std.specs.Prelude.{ℕ, suc, ◌+◌, Bool, true, false, not, ◌&&◌, ◌||◌, List, [], ◌∷◌, ◌++◌, nat_le}
 use Rattle.codec.specs.declared.fault.Refusal.{Refusal}
 use Rattle.codec.specs.declared.fault.Refusal.TheVariants.{TypeFault, Sharing}
-use Rattle.lfpl.specs.Syntax.{Ty, same_ty, is_heap_free, Head, Expr, Exprs, expr, end, ◌then◌, size, sizes, names, names_any, Fun, Program}
-use Rattle.lfpl.specs.Typing.{rule, fits, early, alike, type_at, Rule}
+use Rattle.lfpl.specs.Syntax.{Ty, same_ty, is_heap_free, Expr, Exprs, expr, end, ◌then◌, size, sizes, names, names_any, Fun, Program}
+use Rattle.lfpl.specs.Typing.{rule, fits, early, alike, type_at}
 
 -- what is found, or a fault at an expression
 pub data Verdict (X : Type 0) : Type 0 where

@@ -2,8 +2,8 @@
 use Rattle.std.specs.Prelude.{◌≡◌, ℕ, true, ◌↔◌, List, [], ◌∷◌, map, length}
 use Rattle.lfpl.specs.Syntax.{Ty, int, plus, Head, var, apply, Expr, expr, end, ◌then◌, Fun, Program}
 use Rattle.lfpl.specs.Judge.{judge, program_verdict, fine}
-use Rattle.lfpl.specs.Typing.{rule, fits, Rule}
-use Rattle.lfpl.specs.Reading.{shape, Shape}
+use Rattle.lfpl.specs.Typing.{rule, fits}
+use Rattle.lfpl.specs.Reading.{shape}
 use Rattle.lfpl.specs.Hofmann.{Derivable, WellTyped}
 
 -- the judgement finds exactly the types that Hofmann's rules derive

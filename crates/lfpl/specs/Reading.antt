@@ -1,5 +1,5 @@
 -- How the bytes of a table are read: the program that they spell, or the first refusal with its place.
-use Rattle.std.specs.Prelude.{ℕ, zero, suc, ◌+◌, ◌-◌, Bool, true, false, cond, not, ◌&&◌, ◌||◌, List, [], ◌∷◌, ◌++◌, map, length, get_or, replicate, ℤ, nat_le, nat_lt, slice_index, slice_index_or}
+use Rattle.std.specs.Prelude.{ℕ, zero, suc, ◌+◌, ◌-◌, Bool, true, false, cond, not, ◌&&◌, ◌||◌, List, [], ◌∷◌, map, length, get_or, replicate, nat_le, nat_lt, slice_index, slice_index_or}
 use Rattle.codec.specs.Integer.{unzigzag}
 use Rattle.codec.specs.Reading.{Scan, done, refused, then as followed, number_at, within_at, many_at}
 use Rattle.codec.specs.declared.fault.Refusal.{Refusal}

@@ -1,5 +1,5 @@
 -- The language LFPL: types, expressions and programs.
-use Rattle.std.specs.Prelude.{ℕ, zero, suc, ◌+◌, max, Bool, true, false, ◌&&◌, ◌||◌, List, [], ◌∷◌, ◌++◌, ℤ, ◌==◌}
+use Rattle.std.specs.Prelude.{ℕ, ◌+◌, max, Bool, true, false, ◌&&◌, ◌||◌, List, ℤ, ◌==◌}
 
 -- Types: integers of 32 bits (N), the diamond (the right to one memory cell), lists, trees with labels, pairs and sums.
 pub data Ty : Type 0 where

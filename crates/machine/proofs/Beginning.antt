@@ -1,20 +1,19 @@
 -- What a turn begins with: an expression is to begin, or a value has come back.
-use Rattle.std.proofs.Common.{◌≡◌, ℕ, zero, suc, ◌+◌, ◌-◌, ◌<◌, ◌≤◌, Bool, true, false, cond, ltb, leb, List, [], ◌∷◌, length, get_or, sym, refl, ap, ◌∙◌, subst, arith}
+use Rattle.std.proofs.Common.{◌≡◌, ℕ, ◌+◌, ◌-◌, ◌<◌, ◌≤◌, List, [], ◌∷◌, length, get_or, sym, refl, ap, ◌∙◌, subst, arith}
 use mathlib.Core.Option.{some, none}
 use Rattle.std.proofs.lemmas.Bool.{le-leb, lt-ltb, lt-leb, le-ltb}
-use Rattle.lfpl.specs.Syntax.{Ty, Expr, expr, size, Fun, Program}
-use Rattle.lfpl.specs.Values.{Typed}
+use Rattle.lfpl.specs.Syntax.{Ty, Expr, expr, Fun, Program}
 use Rattle.meaning.specs.Act.{types}
-use Rattle.meaning.specs.Machine.{Frame, Item, State, going, done, halted, item, begun, joined, begins_under, landing, return}
+use Rattle.meaning.specs.Machine.{Frame, State, halted, item, begun, joined, begins_under, landing, return}
 use Rattle.meaning.specs.Mean.{Level, limited, height, words}
 use Rattle.pool.specs.Pools.{Meaning}
-use Rattle.store.specs.Layout.{Shows, footprint, occ, used}
+use Rattle.store.specs.Layout.{Shows, footprint, occ}
 use Rattle.store.proofs.Moves.{occ_append}
 use Rattle.code.specs.Nodes.{node_at}
 use Rattle.code.specs.Standing.{Stands}
 use Rattle.code.specs.declared.Code.{Code}
 use Rattle.code.specs.declared.Node.{Node}
-use Rattle.machine.specs.Enacting.{own, nobody, Going, Back, Ready, Stack, stack_cells, Founded, Shape, Enacts, why_of}
+use Rattle.machine.specs.Enacting.{own, nobody, Going, Back, Stack, Shape, Enacts, why_of}
 use Rattle.machine.specs.Stepping.{Rest, Readied, Returning, Takes, proceeds, stepped, turned, turns_left, waiting}
 use Rattle.machine.specs.declared.Limit as L
 use Rattle.machine.specs.declared.Limit.TheVariants as Limit

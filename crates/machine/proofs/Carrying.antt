@@ -1,8 +1,8 @@
 -- Steps one after another.
-use Rattle.std.proofs.Common.{◌≡◌, ℕ, zero, suc, ◌+◌, ◌-◌, ◌<◌, ◌≤◌, Bool, true, false, ◌⊎◌, sym, refl, ap, ◌∙◌, subst, inl, inr, add-zero, add_assoc, zero-add, arith}
+use Rattle.std.proofs.Common.{◌≡◌, ℕ, zero, suc, ◌+◌, ◌-◌, ◌<◌, ◌≤◌, true, ◌⊎◌, sym, refl, ap, ◌∙◌, subst, inl, inr, add-zero, add_assoc, zero-add, arith}
 use mathlib.Core.Bool.{false≢true}
 use Rattle.lfpl.specs.Syntax.{Ty, Program}
-use Rattle.meaning.specs.Machine.{State, going, done, halted, astray, run, after}
+use Rattle.meaning.specs.Machine.{State, run, after}
 use Rattle.meaning.specs.Mean.{limited}
 use Rattle.pool.specs.Pools.{Meaning}
 use Rattle.code.specs.declared.Code.{Code}
@@ -12,7 +12,6 @@ use Rattle.machine.specs.declared.Limit.TheVariants as Limit
 use Rattle.machine.specs.declared.Machine.{Machine}
 use Rattle.machine.specs.declared.Mode.{Mode}
 use Rattle.machine.specs.declared.Mode.TheVariants.{Begin, Return, Done, Halted}
-use Rattle.machine.specs.declared.Ran.{Ran}
 use Rattle.machine.proofs.Beginning.{rest_then}
 use Rattle.machine.proofs.Turning.{rest_same}
 

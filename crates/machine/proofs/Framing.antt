@@ -1,5 +1,5 @@
 -- What waits stays as it is where its words and its cells stay.
-use Rattle.std.proofs.Common.{◌≡◌, ℕ, ◌+◌, ◌<◌, ◌≤◌, List, [], ◌∷◌, ◌++◌, length, get_or, sym, refl, ap, ◌∙◌, subst, arith}
+use Rattle.std.proofs.Common.{◌≡◌, ℕ, ◌+◌, ◌<◌, ◌≤◌, List, [], ◌∷◌, length, get_or, refl, arith}
 use Rattle.lfpl.specs.Syntax.{Ty, Fun}
 use Rattle.meaning.specs.Machine.{Frame}
 use Rattle.meaning.specs.Mean.{widths}

@@ -3,27 +3,26 @@ use Rattle.std.proofs.Common.{◌≡◌, ℕ, zero, suc, ◌+◌, ◌<◌, ◌�
 use Rattle.std.specs.List.{AllByRecursion as All}
 use Rattle.std.proofs.lemmas.List.{length-append, append_assoc, append-nil}
 use Rattle.std.proofs.lemmas.Bool.{leb-true}
-use Rattle.lfpl.specs.Reading.{roomy}
 use Rattle.lfpl.specs.Syntax.{Ty, int, diamond, list_of, tree_of, pair_of, sum_of, width, Head, var, call, const, apply, guard, mk_pair, case_pair, mkLeft, mkRight, case_sum, mk_nil, mkCons, case_list, mk_leaf, mkNode, caseTree, Expr, Exprs, expr, end, ◌then◌, size, sizes, names, names_any, is_var, Fun}
 use Rattle.lfpl.specs.Typing.{rule, type_at, fun_at, opened}
 use Rattle.lfpl.specs.Values.{Typed}
 use Rattle.meaning.specs.Act.{types}
-use Rattle.meaning.specs.Machine.{Item, Frame, item, joined, arm_at, yields, body_number, body}
+use Rattle.meaning.specs.Machine.{Frame, item, joined, arm_at, yields, body_number, body}
 use Rattle.meaning.specs.Mean.{Level, above, body_level, widths}
 use Rattle.typing.specs.Scopes.{widths as type_widths, offsets}
-use Rattle.pool.specs.Pools.{Meaning, held}
+use Rattle.pool.specs.Pools.{Meaning}
 use Rattle.store.specs.Layout.{occ, footprint}
 use Rattle.store.proofs.Moves.{occ_append}
 use Rattle.code.specs.Nodes.{node_at}
-use Rattle.code.specs.Standing.{Narrow, Sits, Stands, StandsAll, StandsArms, Encodes}
+use Rattle.code.specs.Standing.{Narrow, Sits, Stands, StandsAll, StandsArms}
 use Rattle.code.specs.declared.Code.{Code}
 use Rattle.code.specs.declared.Next.{Next}
-use Rattle.acts.specs.Places.{Lies, cells_of, cells_at, places, from, all}
+use Rattle.acts.specs.Places.{Lies, cells_of, places, from, all}
 use Rattle.acts.specs.Settling.{Settles, Gave, Chose, Entered, value_cells}
 use Rattle.acts.proofs.Lying.{lies_same, lies_less, lies_higher, lies_append, cells_append, cells_less, types_append, widths_append, widths_types, places_append, length_places, from_append, length_from, places_from, length_offsets}
-use Rattle.machine.specs.Enacting.{nobody, named, Fixed, Stage, stage_cells, Stack, stack_cells, Going, Back, Ready}
+use Rattle.machine.specs.Enacting.{nobody, named, Fixed, stage_cells, Stack, stack_cells, Going, Back, Ready}
 use Rattle.machine.specs.declared.Waiting.{Waiting}
-use Rattle.machine.proofs.Framing.{below_less, stage_same, stack_same}
+use Rattle.machine.proofs.Framing.{below_less, stack_same}
 use Rattle.machine.proofs.Parts.{frame, stands_node, or_left, or_right, done_widths}
 
 -- no part is to come

@@ -1,5 +1,5 @@
 -- An expression begins, and its parts one after another.
-use Rattle.std.proofs.Common.{◌≡◌, ℕ, zero, suc, ◌+◌, ◌*◌, ◌<◌, ◌≤◌, Bool, true, false, ◌||◌, List, [], ◌∷◌, ◌++◌, length, get_or, sym, refl, ap, ◌∙◌, subst, add-zero, add-one, arith}
+use Rattle.std.proofs.Common.{◌≡◌, ℕ, suc, ◌+◌, ◌*◌, ◌<◌, ◌≤◌, Bool, true, false, ◌||◌, List, [], ◌∷◌, ◌++◌, length, get_or, refl, ap, ◌∙◌, subst, add-one, arith}
 use mathlib.Core.Bool.{false≢true}
 use Rattle.std.specs.List.{AllByRecursion as All}
 use Rattle.std.proofs.lemmas.List.{length-append}
@@ -9,19 +9,19 @@ use Rattle.lfpl.specs.Syntax.{Ty, width, is_heap_free, Head, var, call, const, a
 use Rattle.lfpl.specs.Typing.{rule, type_at, fits}
 use Rattle.lfpl.specs.Values.{Typed}
 use Rattle.meaning.specs.Act.{types}
-use Rattle.meaning.specs.Machine.{Item, Frame, item}
+use Rattle.meaning.specs.Machine.{Frame, item}
 use Rattle.meaning.specs.Mean.{Level, above, widths}
 use Rattle.typing.specs.Scopes.{widths as type_widths}
 use Rattle.pool.specs.Pools.{Meaning}
 use Rattle.store.specs.Layout.{one, occ}
 use Rattle.store.proofs.Moves.{occ_append}
 use Rattle.code.specs.Nodes.{node_at}
-use Rattle.code.specs.Standing.{Narrow, Apart, Sits, Stands, StandsAll, StandsArms}
+use Rattle.code.specs.Standing.{Narrow, Sits, Stands, StandsAll, StandsArms}
 use Rattle.code.specs.declared.Code.{Code}
 use Rattle.acts.specs.Places.{cells_of, places, from, all, shift}
 use Rattle.acts.proofs.Lying.{lies_less, lies_higher, Shared, cells_shared, widths_types}
 use Rattle.machine.specs.Stepping.{onward}
-use Rattle.machine.specs.Enacting.{nobody, named, Fixed, Stage, stage_cells, Stack, stack_cells, Going, Ready}
+use Rattle.machine.specs.Enacting.{nobody, Fixed, stage_cells, stack_cells, Going, Ready}
 use Rattle.machine.specs.declared.Waiting.{Waiting}
 use Rattle.machine.proofs.Framing.{stack_same}
 

@@ -1,21 +1,21 @@
 -- A machine enacts its state whatever becomes of cells that are not the run's.
-use Rattle.std.proofs.Common.{◌≡◌, ℕ, ◌+◌, ◌<◌, ◌≤◌, List, [], ◌∷◌, ◌++◌, length, get_or, sym, refl, ap, ◌∙◌, subst, arith}
+use Rattle.std.proofs.Common.{◌≡◌, ℕ, ◌<◌, ◌≤◌, List, refl, ap, ◌∙◌, arith}
 use Rattle.lfpl.specs.Syntax.{Ty, width, names, Fun, Program}
 use Rattle.lfpl.specs.Values.{Typed}
 use Rattle.meaning.specs.Machine.{Frame, Item, State}
 use Rattle.pool.specs.Pools.{Meaning, held}
-use Rattle.store.specs.Layout.{Shows, footprint, occ, used}
+use Rattle.store.specs.Layout.{Shows, footprint, occ}
 use Rattle.store.proofs.Moves.{moved, occ_append, used_same, same_window}
 use Rattle.code.specs.declared.Code.{Code}
 use Rattle.acts.specs.Places.{cells_of, from}
 use Rattle.acts.proofs.Lying.{lies_same}
-use Rattle.machine.specs.Enacting.{own, Stack, stack_cells, Going, Back, Founded, Shape, Enacts}
+use Rattle.machine.specs.Enacting.{own, stack_cells, Going, Back, Shape, Enacts}
 use Rattle.machine.specs.declared.Machine.{Machine}
 use Rattle.machine.specs.declared.Mode.{Mode}
 use Rattle.machine.specs.declared.Mode.TheVariants.{Begin, Return, Done, Halted}
 use Rattle.machine.specs.declared.Progress.TheVariants as Progress
 use Rattle.machine.specs.declared.Waiting.{Waiting}
-use Rattle.machine.specs.Stepping.{Returning, progress_of}
+use Rattle.machine.specs.Stepping.{progress_of}
 use Rattle.machine.proofs.Framing.{stack_same}
 
 module _ (m m' : Meaning) (mine : List ℕ) (same : (c : ℕ) → 0 < occ c mine → held m' c ≡ held m c) where

@@ -1,5 +1,5 @@
 -- An operation performed takes the machine to the next state.
-use Rattle.std.proofs.Common.{◌≡◌, ℕ, zero, suc, ◌+◌, ◌<◌, ◌≤◌, List, [], ◌∷◌, ◌++◌, length, take, sym, refl, ap, ◌∙◌, subst, ap₂, add-zero, add-one, arith}
+use Rattle.std.proofs.Common.{◌≡◌, ℕ, zero, suc, ◌+◌, ◌≤◌, List, ◌++◌, length, take, sym, refl, ap, ◌∙◌, subst, ap₂, add-one, arith}
 use Rattle.lfpl.specs.Syntax.{Ty, Head, Exprs, end, Fun, Program}
 use Rattle.lfpl.specs.Values.{Typed}
 use Rattle.meaning.specs.Act.{Act, give, choose, enter, stuck, act, types}
@@ -14,12 +14,11 @@ use Rattle.code.specs.declared.Code.{Code}
 use Rattle.code.specs.declared.Next.{Next}
 use Rattle.code.specs.declared.Next.TheVariants.{Value, Body}
 use Rattle.acts.specs.Effects.{Effect, Room}
-use Rattle.acts.specs.Settling.{Acts, Gave, Chose, Entered, arm_of, InPlaceLaw}
+use Rattle.acts.specs.Settling.{Acts, arm_of, InPlaceLaw}
 use Rattle.machine.specs.Enacting.{own, stage_cells, stack_cells, Going, Back, Founded, Shape, Enacts}
 use Rattle.machine.specs.Stepping.{Rest, Readied, Performed, mode_after}
 use Rattle.machine.specs.declared.Machine.{Machine}
-use Rattle.machine.specs.declared.Mode.{Mode}
-use Rattle.machine.specs.declared.Mode.TheVariants.{Begin, Return, Done, Halted}
+use Rattle.machine.specs.declared.Mode.TheVariants.{Begin}
 use Rattle.machine.specs.declared.Waiting.{Waiting}
 use Rattle.machine.proofs.Landing.{arm_number, sits, settles, gave_back, chose_going, entered_going}
 use Rattle.machine.proofs.Parts.{frame}

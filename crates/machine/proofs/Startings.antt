@@ -1,7 +1,7 @@
 -- How a run begins on the arguments loaded.
 use Rattle.std.proofs.Common.{◌≡◌, ℕ, ◌*◌, ◌<◌, ◌≤◌, min, Bool, true, false, cond, List, [], ◌∷◌, ◌++◌, length, get_or, drop, sym, refl, ap, ◌∙◌, subst, arith}
 use Rattle.std.specs.List.{AllByRecursion as All}
-use Rattle.lfpl.specs.Syntax.{Ty, width, names, Program}
+use Rattle.lfpl.specs.Syntax.{Ty, names, Program}
 use Rattle.lfpl.specs.Typing.{fun_at}
 use Rattle.lfpl.specs.Values.{Typed}
 use Rattle.meaning.specs.Act.{types}

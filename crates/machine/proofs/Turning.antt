@@ -1,28 +1,23 @@
 -- An expression goes on, begins, or gets a value back.
-use Rattle.std.proofs.Common.{◌≡◌, ℕ, zero, suc, ◌+◌, ◌-◌, ◌<◌, ◌≤◌, true, false, cond, ltb, leb, List, [], ◌∷◌, ◌++◌, length, get_or, set, sym, refl, ap, ◌∙◌, subst, ap₂, add-one, arith, length-set}
+use Rattle.std.proofs.Common.{◌≡◌, ℕ, ◌+◌, ◌<◌, ◌≤◌, List, ◌∷◌, length, get_or, set, sym, refl, ap, ◌∙◌, subst, add-one, arith, length-set}
 use Rattle.std.proofs.lemmas.List.{get_or-set_same, get_or-set_other}
-use Rattle.std.proofs.lemmas.Bool.{le-leb, lt-ltb, leb-false, ltb-false}
-use Rattle.lfpl.specs.Syntax.{Ty, Head, Expr, Exprs, expr, end, ◌then◌, size, sizes, Fun, Program}
-use Rattle.lfpl.specs.Values.{Typed}
+use Rattle.lfpl.specs.Syntax.{Ty, Expr, Exprs, expr, end, ◌then◌, size, Program}
 use Rattle.meaning.specs.Act.{types}
-use Rattle.meaning.specs.Machine.{Frame, Item, State, going, done, halted, item, begun, joined, begins_under, landing, proceed, return, step}
-use Rattle.meaning.specs.Mean.{Level, above, limited, widths, height, words}
+use Rattle.meaning.specs.Machine.{Frame, going, item}
+use Rattle.meaning.specs.Mean.{above, widths}
 use Rattle.pool.specs.Pools.{Meaning}
-use Rattle.store.specs.Layout.{occ, used}
 use Rattle.code.specs.Nodes.{node_at}
 use Rattle.code.specs.declared.Code.{Code}
 use Rattle.acts.specs.Effects.{Room}
 use Rattle.acts.specs.Settling.{InPlaceLaw}
-use Rattle.machine.specs.Enacting.{own, nobody, Going, Back, Ready, Founded, Shape, Enacts}
-use Rattle.machine.specs.Stepping.{Rest, Readied, Performed, Passed, onward, proceeds, stepped, turned}
-use Rattle.machine.specs.declared.Limit.TheVariants as Limit
+use Rattle.machine.specs.Enacting.{own, nobody, Going, Shape, Enacts}
+use Rattle.machine.specs.Stepping.{Rest, Readied, Performed, Passed, onward, proceeds}
 use Rattle.machine.specs.declared.Machine.{Machine}
-use Rattle.machine.specs.declared.Mode.{Mode}
-use Rattle.machine.specs.declared.Mode.TheVariants.{Begin, Return, Done, Halted}
+use Rattle.machine.specs.declared.Mode.TheVariants.{Begin}
 use Rattle.machine.specs.declared.Waiting.{Waiting}
-use Rattle.machine.proofs.Landing.{stack_depth, back_ready}
-use Rattle.machine.proofs.Parts.{frame, begin_ready, first_part, stands_node, part_going, done_widths}
-use Rattle.machine.proofs.Settled.{own_same, founded_on, place, room, end_enacts}
+use Rattle.machine.proofs.Landing.{stack_depth}
+use Rattle.machine.proofs.Parts.{frame, first_part, stands_node, part_going, done_widths}
+use Rattle.machine.proofs.Settled.{own_same, founded_on, room, end_enacts}
 
 pub rest_same : (m : Meaning) (x x' : Machine) → own x' ≡ own x → Rest m x m x'
 rest_same m x x' e = record { cells = e; still = λ c o. refl; taken = λ c. refl; count = refl; bound = refl }

@@ -1,5 +1,5 @@
 -- How a run is loaded with its arguments, and what its end leaves of its cells.
-use Rattle.std.specs.Prelude.{◌≡◌, ℕ, ◌+◌, ◌≤◌, List, length}
+use Rattle.std.specs.Prelude.{◌≡◌, ℕ, ◌+◌, List, length}
 use Rattle.lfpl.specs.Syntax.{Ty}
 use Rattle.lfpl.specs.Values.{Typed, Val, charge}
 use Rattle.meaning.specs.Mean.{widths}

@@ -1,5 +1,5 @@
 -- What the machine's calls do to the state that it enacts.
-use Rattle.std.specs.Prelude.{◌≡◌, ℕ, ◌+◌, ◌-◌, ◌<◌, ◌≤◌, Bool, true, false, List, length, slice_set}
+use Rattle.std.specs.Prelude.{◌≡◌, ℕ, ◌+◌, ◌<◌, ◌≤◌, Bool, true, false, List, length, slice_set}
 use Rattle.lfpl.specs.Syntax.{Ty, Program}
 use Rattle.meaning.specs.Machine.{Frame, State, going, done, halted, astray, landing, proceed, return, step, run}
 use Rattle.meaning.specs.Mean.{height, words, limited}

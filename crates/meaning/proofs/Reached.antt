@@ -5,7 +5,7 @@ use Rattle.std.specs.List.{AllByRecursion as All}
 use Rattle.std.proofs.lemmas.Bool.{leb-true, leb-false, ltb-true, ltb-false, le-leb, lt-leb, lt-ltb}
 use Rattle.lfpl.specs.Syntax.{Ty, Fun, Program}
 use Rattle.lfpl.specs.Typing.{fun_at}
-use Rattle.lfpl.specs.Values.{charge, Typed}
+use Rattle.lfpl.specs.Values.{Typed}
 use Rattle.lfpl.proofs.Judged.{program_law}
 use Rattle.meaning.specs.Mean.{Level, Why, height, words, Limit, limited, End, gives, halts, wrong, Means}
 use Rattle.meaning.specs.Machine.{Item, Frame, State, going, done, halted, astray, ended, after, landing, begins_under, return, step, run, start}

@@ -4,7 +4,7 @@ use Rattle.std.proofs.Common.{arith}
 use Rattle.std.specs.List.{AllByRecursion as All}
 use Rattle.std.proofs.lemmas.List.{length-replicate}
 use Rattle.std.proofs.lemmas.List.Sums.{sum_by-cons}
-use Rattle.pool.specs.Pools.{Cell, Meaning, taken, Sixteen, Lawful}
+use Rattle.pool.specs.Pools.{Cell, Meaning, Sixteen, Lawful}
 
 -- numbers up to n, at most 65,535, and no cell taken or free
 abbrev pub hollow : ℕ → Meaning

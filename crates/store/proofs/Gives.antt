@@ -1,5 +1,5 @@
 -- How cells are given back, one after another.
-use Rattle.std.proofs.Common.{◌≡◌, ℕ, zero, suc, ◌+◌, ◌-◌, ◌<◌, ◌≤◌, min, Bool, true, false, cond, eqb, ◌≢◌, List, [], ◌∷◌, ◌++◌, length, get_or, take, drop, is_some, None, sym, refl, ap, ◌∙◌, subst, ⊎_elim, zero-add, arith, length-append, eq-eqb}
+use Rattle.std.proofs.Common.{◌≡◌, ℕ, zero, suc, ◌+◌, ◌<◌, ◌≤◌, min, Bool, true, false, cond, eqb, ◌≢◌, List, [], ◌∷◌, ◌++◌, length, get_or, take, drop, is_some, None, sym, refl, ap, ◌∙◌, subst, ⊎_elim, zero-add, arith, length-append, eq-eqb}
 use lib.Seq.{sets, sets-eq}
 use Rattle.std.proofs.lemmas.List.{take_more, take_all, take_at}
 use Rattle.std.proofs.lemmas.Bool.{cases_lt, eqb-true, eqb-false}

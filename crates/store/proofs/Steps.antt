@@ -3,7 +3,7 @@ use Rattle.std.proofs.Common.{◌≡◌, ℕ, ◌+◌, ◌^◌, ◌<◌, cond, e
 use Rattle.codec.specs.Integer.{unzigzag}
 use Rattle.codec.specs.Number.{number}
 use Rattle.lfpl.specs.Syntax.{Ty, int, diamond, list_of, tree_of, pair_of, sum_of, width}
-use Rattle.lfpl.specs.Values.{Val, node, pair, left, right, charge}
+use Rattle.lfpl.specs.Values.{Val, node, pair, charge}
 use Rattle.pool.specs.Pools.{Meaning}
 use Rattle.store.specs.Building.{Boxes, Built, Builds, Fresh}
 use Rattle.store.specs.Spelling.{Spells, read_from}

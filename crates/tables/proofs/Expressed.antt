@@ -9,7 +9,7 @@ use Rattle.codec.specs.declared.fault.Fault.{Fault}
 use Rattle.codec.specs.declared.fault.Refusal.{Refusal}
 use Rattle.codec.specs.declared.fault.Refusal.TheVariants.{TooManyExpressions, TooManyVariables}
 use Rattle.codec.proofs.Takings.{takes_as, takes_done}
-use Rattle.lfpl.specs.Syntax.{Ty, Head, guard, ◌then◌}
+use Rattle.lfpl.specs.Syntax.{Ty, Head, guard}
 use Rattle.lfpl.specs.Reading.{Reader, ◌>>=◌, pure, below, demand, Names, shape, heads, head_at}
 use Rattle.lfpl.specs.Typing.{type_at}
 use Rattle.tables.specs.Inner.{Few, Gives, operand_of, arms_of, shape_of, Named, operand_at, Ranges, kind_at, Begins, hindered, inner, to_come, waiting}

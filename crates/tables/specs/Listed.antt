@@ -1,7 +1,7 @@
 -- What a flat table lists: the program that its entries, signatures and nodes stand for.
-use Rattle.std.specs.Prelude.{◌≡◌, ℕ, zero, suc, ◌+◌, ◌<◌, ◌≤◌, Bool, true, List, [], ◌∷◌, map, length, take, replicate, slice_index_or}
+use Rattle.std.specs.Prelude.{◌≡◌, ℕ, ◌+◌, ◌<◌, ◌≤◌, true, List, [], ◌∷◌, map, length, take, replicate, slice_index_or}
 use Rattle.codec.specs.Integer.{unzigzag}
-use Rattle.lfpl.specs.Syntax.{Ty, int, diamond, list_of, tree_of, pair_of, sum_of, width, is_heap_free, plus, Head, var, call, const, apply, guard, mk_pair, case_pair, mkLeft, mkRight, case_sum, mk_nil, mkCons, case_list, mk_leaf, mkNode, caseTree, Expr, Exprs, expr, end, ◌then◌, Fun, Program}
+use Rattle.lfpl.specs.Syntax.{Ty, int, diamond, list_of, tree_of, pair_of, sum_of, width, is_heap_free, plus, Head, var, call, const, apply, guard, mk_pair, case_pair, mkLeft, mkRight, case_sum, mk_nil, mkCons, case_list, mk_leaf, mkNode, caseTree, Expr, Exprs, expr, end, ◌then◌, Program}
 use Rattle.lfpl.specs.Typing.{type_at}
 use Rattle.lfpl.specs.Reading.{Names, shape, operations, roomy, Signature as TypeOf, functions_of, arity}
 use Rattle.tables.specs.declared.listing.Entry.{Entry}

@@ -6,7 +6,7 @@ use Rattle.lfpl.specs.Syntax.{Ty, int, width, is_heap_free}
 use Rattle.lfpl.specs.Typing.{type_at}
 use Rattle.typing.specs.Codes.{Coded, CodedAll}
 use Rattle.typing.specs.Scopes.{widths, offsets}
-use Rattle.typing.specs.Scopes.{Scopes, has, heavy}
+use Rattle.typing.specs.Scopes.{Scopes, has}
 use Rattle.typing.specs.declared.scope.Scope.{Scope}
 use Rattle.typing.proofs.Coding.{coded_length, coded_at, coded_push}
 use Rattle.typing.proofs.Masks.{has_or, heavy_push}

@@ -1,4 +1,4 @@
-use Rattle.std.proofs.Common.{◌≡◌, ◌<◌, ◌≤◌, sym, refl, ap, ◌∙◌, subst, arith}
+use Rattle.std.proofs.Common.{◌≡◌, ◌<◌, sym, ap, subst, arith}
 use Rattle.acts.proofs.InPlace.{in_place_law}
 use Rattle.acts.specs.Effects.{Room}
 use Rattle.code.specs.Nodes.{node_at}

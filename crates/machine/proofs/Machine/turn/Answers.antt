@@ -1,6 +1,5 @@
-use Rattle.std.proofs.Common.{◌≡◌, ℕ, ◌+◌, ◌-◌, ◌<◌, ◌≤◌, sym, refl, ap, ◌∙◌, subst, arith}
+use Rattle.std.proofs.Common.{◌≡◌, ◌+◌, ◌<◌, sym, refl, ap, subst, arith}
 use Rattle.code.specs.Nodes.{node_at}
-use Rattle.machine.specs.Enacting.{Enacts}
 use Rattle.machine.specs.Stepping.{waiting}
 use Rattle.machine.specs.declared.Machine.{Machine}
 use Rattle.machine.specs.declared.Mode.TheVariants.{Done, Halted}

@@ -1,4 +1,4 @@
-use Rattle.std.proofs.Common.{length, take, arith, length-take}
+use Rattle.std.proofs.Common.{take, arith, length-take}
 use Rattle.machine.proofs.Givings.{none_left}
 use Rattle.machine.proofs.ends.give_rest.Goals as goal
 
