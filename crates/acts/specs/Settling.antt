@@ -1,7 +1,7 @@
 -- An expression whose parts are done does in place what it means: the words and cells that show its variables and its parts' values show, after its operation, the
 -- value that it gives or the variables of the arm or body that it chooses.
 use Rattle.std.specs.Prelude.{◌≡◌, ℕ, zero, suc, ◌+◌, ◌<◌, ◌≤◌, true, List, [], ◌++◌, length, slice_index_or}
-use Rattle.std.specs.List.{AllByRecursion as All}
+use Rattle.std.specs.List.{AllByRecursion}
 use Rattle.lfpl.specs.Syntax.{Ty, Head, Exprs, expr, end, names, Fun}
 use Rattle.lfpl.specs.Typing.{fun_at, rule, fits}
 use Rattle.lfpl.specs.Values.{Typed}
@@ -34,7 +34,7 @@ module _ (fs : List Fun) (m : Meaning) (ws : List ℕ) (base at dest : ℕ) (h :
   pub record Settles (B W : Ty) : Type 0 where
     pub fit : fits (rule fs (types env) h (types vs)) (types vs) ≡ true
     pub whole : (rule fs (types env) h (types vs)).whole B ≡ W
-    pub parts : All Narrow (types vs)
+    pub parts : AllByRecursion Narrow (types vs)
     pub narrow : Narrow W
     pub long : length ps ≡ length env
     pub variables : Lies m ws at (λ i. names i (expr h end qs)) env (from base ps)

@@ -2,7 +2,7 @@
 use Rattle.std.proofs.Common.{◌≡◌, ℕ, zero, suc, ◌+◌, ◌%◌, ◌<◌, ◌≤◌, Bool, true, false, cond, ◌⊎◌, List, [], ◌∷◌, ◌++◌, map, length, get_or, take, sym, refl, ap, ◌∙◌, subst, inl, inr, arith, length-take}
 use lib.ListN.{length-map}
 use Rattle.std.proofs.lemmas.List.{get_or-take}
-use Rattle.std.specs.List.{AllByRecursion as All}
+use Rattle.std.specs.List.{AllByRecursion}
 use Rattle.code.specs.Nodes.{no_node, node_at}
 use Rattle.code.specs.Standing as standing
 use Rattle.code.specs.Standing.{Narrow, Sits, Encodes}
@@ -67,18 +67,18 @@ coded_narrow l ts t c A h = go (code_cases ts c A h)
     go (inr (inl p)) = subst Narrow (sym p.1) (record { low = omega arith; element = refl })
     go (inr (inr p)) = subst Narrow p.1 (record { low = t.types.narrow c p.0; element = t.types.roomy c p.0 })
 
-pub numbers_narrow : (l : Listing) (ts : List Ty) → Typed l ts → (ns : List ℕ) → Numbers ts ns → All Narrow (map (type_at ts) ns)
+pub numbers_narrow : (l : Listing) (ts : List Ty) → Typed l ts → (ns : List ℕ) → Numbers ts ns → AllByRecursion Narrow (map (type_at ts) ns)
 numbers_narrow l ts t [] h = tt
 numbers_narrow l ts t (n ∷ ns) h = (record { low = t.types.narrow n h.0; element = t.types.roomy n h.0 }, numbers_narrow l ts t ns h.1)
 
 pub params_narrow : (l : Listing) (ts : List Ty) → Typed l ts → (s : Signature) (g : Fun) → Signs ts s (type_of g)
-    → (length g.params ≤ 6) × All Narrow g.params
+    → (length g.params ≤ 6) × AllByRecursion Narrow g.params
 params_narrow l ts t s g h =
     let e = ap length h.params in
     let m = length-map (take s.arity s.params) (type_at ts) in
     let k = length-take s.arity s.params in
     let f = h.few in
-    (omega arith, subst (All Narrow) (sym h.params) (numbers_narrow l ts t (take s.arity s.params) h.numbers))
+    (omega arith, subst (AllByRecursion Narrow) (sym h.params) (numbers_narrow l ts t (take s.arity s.params) h.numbers))
 
 -- ---- expressions
 
@@ -97,7 +97,7 @@ module _ (t : Table) (ts : List Ty) (fs : List Fun) (code : Code) (basis : Basis
   few_params f h = (params_narrow t.listing ts basis.typed _ (fun_at fs f) (basis.signed f (record { params = []; arity = 0; result = 0 }) h)).0
 
   -- the types of parts that are noted
-  parts_narrow : (es : Exprs) (n : ℕ) (Γ : List Ty) (ps : List ℕ) (over : ℕ) (As : List Ty) → LaidAll ts fs notes es n Γ ps over As → All Narrow As
+  parts_narrow : (es : Exprs) (n : ℕ) (Γ : List Ty) (ps : List ℕ) (over : ℕ) (As : List Ty) → LaidAll ts fs notes es n Γ ps over As → AllByRecursion Narrow As
   parts_narrow end n Γ ps over [] d = tt
   parts_narrow end n Γ ps over (A ∷ As) d = absurd d
   parts_narrow (e then es) n Γ ps over [] d = absurd d

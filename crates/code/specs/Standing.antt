@@ -2,7 +2,7 @@
 use Rattle.std.specs.Prelude.{◌≡◌, ℕ, ◌+◌, ◌<◌, ◌≤◌, true, false, List, [], ◌∷◌, ◌++◌, length, slice_index}
 use Rattle.std.specs.Int.{w32}
 use Rattle.std.proofs.Common.{of_z}
-use Rattle.std.specs.List.{AllByRecursion as All}
+use Rattle.std.specs.List.{AllByRecursion}
 use Rattle.lfpl.specs.Judge.{count, parts_naming}
 use Rattle.lfpl.specs.Reading.{roomy}
 use Rattle.lfpl.specs.Syntax as lfpl
@@ -65,7 +65,7 @@ module _ (fs : List Fun) (code : Code) where
     pub fit : fits (rule fs Γ h As) As ≡ true
     pub whole : (rule fs Γ h As).whole B ≡ W
     pub few : length As ≤ 6
-    pub parts : All Narrow As
+    pub parts : AllByRecursion Narrow As
     pub narrow : Narrow W
 
   abbrev mutual
@@ -94,4 +94,4 @@ pub record Encodes (code : Code) (p : Program) : Type 0 where
   pub starts : (f : ℕ) → f < length p.functions → start_at code f ≡ body_number p.functions f
   pub bodies : (f : ℕ) → f < length p.functions
       → Stands p.functions code (fun_at p.functions f).body (body_number p.functions f) (fun_at p.functions f).params (offsets 0 (fun_at p.functions f).params) (widths (fun_at p.functions f).params) (fun_at p.functions f).result
-  pub params : (f : ℕ) → f < length p.functions → (length (fun_at p.functions f).params ≤ 6) × All Narrow (fun_at p.functions f).params
+  pub params : (f : ℕ) → f < length p.functions → (length (fun_at p.functions f).params ≤ 6) × AllByRecursion Narrow (fun_at p.functions f).params

@@ -1,6 +1,6 @@
 -- A value comes back, and what an expression does once its parts are done keeps the relation.
 use Rattle.std.proofs.Common.{◌≡◌, ℕ, zero, suc, ◌+◌, ◌<◌, ◌≤◌, Bool, true, false, ◌||◌, List, [], ◌∷◌, ◌++◌, length, get_or, sym, refl, ap, ◌∙◌, subst, add-zero, arith}
-use Rattle.std.specs.List.{AllByRecursion as All}
+use Rattle.std.specs.List.{AllByRecursion}
 use Rattle.std.proofs.lemmas.List.{length-append, append_assoc, append-nil}
 use Rattle.std.proofs.lemmas.Bool.{leb-true}
 use Rattle.lfpl.specs.Syntax.{Ty, int, diamond, list_of, tree_of, pair_of, sum_of, width, Head, var, call, const, apply, guard, mk_pair, case_pair, mkLeft, mkRight, case_sum, mk_nil, mkCons, case_list, mk_leaf, mkNode, caseTree, Expr, Exprs, expr, end, ◌then◌, size, sizes, names, names_any, is_var, Fun}
@@ -93,7 +93,7 @@ module _ (fs : List Fun) (code : Code) (R : Ty) (m : Meaning) (ws : List ℕ) (r
 
 -- ---- what an arm binds
 
-narrow_at : (As : List Ty) (i : ℕ) → All Narrow As → Narrow (type_at As i)
+narrow_at : (As : List Ty) (i : ℕ) → AllByRecursion Narrow As → Narrow (type_at As i)
 narrow_at [] i a = record { low = omega arith; element = refl }
 narrow_at (A ∷ As) zero (n, a) = n
 narrow_at (A ∷ As) (suc i) (n, a) = narrow_at As i a
@@ -116,7 +116,7 @@ opened_widths (sum_of A B) (suc zero) n = omega (arith, n.low)
 opened_widths (sum_of A B) (suc (suc i)) n = omega arith
 
 -- at most 96 words
-arm_widths : (fs : List Fun) (Γ : List Ty) (h : Head) (As : List Ty) (i : ℕ) → All Narrow As → type_widths (get_or (rule fs Γ h As).arms i []) ≤ 96
+arm_widths : (fs : List Fun) (Γ : List Ty) (h : Head) (As : List Ty) (i : ℕ) → AllByRecursion Narrow As → type_widths (get_or (rule fs Γ h As).arms i []) ≤ 96
 arm_widths fs Γ (var j) As i a = omega arith
 arm_widths fs Γ (call f) As i a = omega arith
 arm_widths fs Γ (const z) As i a = omega arith

@@ -1,7 +1,7 @@
 -- An expression begins, and its parts one after another.
 use Rattle.std.proofs.Common.{◌≡◌, ℕ, suc, ◌+◌, ◌*◌, ◌<◌, ◌≤◌, Bool, true, false, ◌||◌, List, [], ◌∷◌, ◌++◌, length, get_or, refl, ap, ◌∙◌, subst, add-one, arith}
 use mathlib.Core.Bool.{false≢true}
-use Rattle.std.specs.List.{AllByRecursion as All}
+use Rattle.std.specs.List.{AllByRecursion}
 use Rattle.std.proofs.lemmas.List.{length-append}
 use Rattle.std.proofs.lemmas.Bool.{and_parts}
 use Rattle.lfpl.specs.Judge.{count, parts_naming}
@@ -35,12 +35,12 @@ widths_of_append : (As Bs : List Ty) → type_widths (As ++ Bs) ≡ type_widths 
 widths_of_append [] Bs = omega arith
 widths_of_append (A ∷ As) Bs = omega (arith, widths_of_append As Bs)
 
-narrow_widths : (As : List Ty) → All Narrow As → type_widths As ≤ 16 * length As
+narrow_widths : (As : List Ty) → AllByRecursion Narrow As → type_widths As ≤ 16 * length As
 narrow_widths [] a = omega arith
 narrow_widths (A ∷ As) (n, a) = omega (arith, n.low, narrow_widths As a)
 
 -- parts done have no more than 96 words
-pub done_widths : (vs : List Typed) (Bs : List Ty) → length (types vs ++ Bs) ≤ 6 → All Narrow (types vs ++ Bs) → widths vs ≤ 96
+pub done_widths : (vs : List Typed) (Bs : List Ty) → length (types vs ++ Bs) ≤ 6 → AllByRecursion Narrow (types vs ++ Bs) → widths vs ≤ 96
 done_widths vs Bs few narrow = omega (arith, narrow_widths (types vs ++ Bs) narrow, widths_of_append (types vs) Bs, widths_types vs)
 
 -- ---- who names what

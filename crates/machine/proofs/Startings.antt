@@ -1,6 +1,6 @@
 -- How a run begins on the arguments loaded.
 use Rattle.std.proofs.Common.{◌≡◌, ℕ, ◌*◌, ◌<◌, ◌≤◌, min, Bool, true, false, cond, List, [], ◌∷◌, ◌++◌, length, get_or, drop, sym, refl, ap, ◌∙◌, subst, arith}
-use Rattle.std.specs.List.{AllByRecursion as All}
+use Rattle.std.specs.List.{AllByRecursion}
 use Rattle.lfpl.specs.Syntax.{Ty, names, Program}
 use Rattle.lfpl.specs.Typing.{fun_at}
 use Rattle.lfpl.specs.Values.{Typed}
@@ -39,7 +39,7 @@ lies_used m ws top need (x ∷ xs) ats l c =
     first true f = shown_used m x.type x.value ws (get_or ats 0 0) (f refl).shows c
     first false f = omega arith
 
-narrow_widths : (As : List Ty) → All Narrow As → scopes.widths As ≤ 16 * length As
+narrow_widths : (As : List Ty) → AllByRecursion Narrow As → scopes.widths As ≤ 16 * length As
 narrow_widths [] h = omega arith
 narrow_widths (A ∷ As) h = omega (arith, h.0.low, narrow_widths As h.1)
 

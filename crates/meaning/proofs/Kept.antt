@@ -5,7 +5,7 @@ use Rattle.std.proofs.Common.{◌≡◌, ℕ, zero, suc, ◌+◌, ◌<◌, ◌�
 use mathlib.Core.Option.{Option, none, some}
 use mathlib.Core.Bool.{false≢true}
 use mathlib.Core.Path.{subst⁻¹}
-use Rattle.std.specs.List.{AllByRecursion as All}
+use Rattle.std.specs.List.{AllByRecursion}
 use Rattle.std.proofs.lemmas.Bool.{and_parts, or_left, or_right}
 use Rattle.std.proofs.ByRecursion.{All-append}
 use Rattle.lfpl.specs.Syntax.{Ty, int, Head, var, call, const, apply, guard, mk_pair, case_pair, mkLeft, mkRight, case_sum, mk_nil, mkCons, case_list, mk_leaf, mkNode, caseTree, Expr, Exprs, expr, end, ◌then◌, names, names_any, is_var, size, Fun, Program}
@@ -133,7 +133,7 @@ module _ (p : Program) (L : Limit) (G : Ty → Bool) where
     Sound R N (halted y) = Halts y
     Sound R N astray = ⊥
 
-  module _ (Halts : Why → Type 0) (closed : Closed G) (named : All (λ g. Passes G (types_in g)) p.functions) (bodies : Bodies p.functions p.functions) where
+  module _ (Halts : Why → Type 0) (closed : Closed G) (named : AllByRecursion (λ g. Passes G (types_in g)) p.functions) (bodies : Bodies p.functions p.functions) where
     -- a body that is entered
     pub body_kept : (d : Due) (f : ℕ) (xs : List Typed) (l : Level) → f < length p.functions → Fit xs (fun_at p.functions f).params
         → (fun_at p.functions f).result ≡ d.type → charges xs ≤ d.charge → NoLower d.level l → Begins d (body p.functions f xs l)
@@ -149,7 +149,7 @@ module _ (p : Program) (L : Limit) (G : Ty → Bool) where
 
     -- an arm that is chosen
     arm_kept : (d : Due) (qs : Exprs) (ls : List (List Ty)) (B : Ty) (i c : ℕ) (env xs : List Typed) (Γ : List Ty) (l : Level)
-        → TypArms p.functions qs ls Γ B → Fit env Γ → Passes G Γ → Chosen ls i xs → All (λ b. Passes G b) ls → B ≡ d.type
+        → TypArms p.functions qs ls Γ B → Fit env Γ → Passes G Γ → Chosen ls i xs → AllByRecursion (λ b. Passes G b) ls → B ≡ d.type
         → weight (λ j. names_any j qs) 0 env + charges xs ≤ d.charge → NoLower d.level l → Stands (flat p.functions) c (heads_all qs)
         → Outcomes Halts d (arm_at qs i c (env ++ xs) l)
     arm_kept d end [] B i c env xs Γ l t f g o a e w v s = absurd o
@@ -175,7 +175,7 @@ module _ (p : Program) (L : Limit) (G : Ty → Bool) where
     -- an expression with no part to come, whose rule is R; `own` is the charge of the variable that it is
     settle_kept : (d : Due) (R : Rule) (own parts : ℕ) (B : Ty) (a : Act) (qs : Exprs) (c : ℕ) (env : List Typed) (Γ : List Ty) (l : Level)
         → Ok p.functions R own parts a → TypArms p.functions qs R.arms Γ B → R.whole B ≡ d.type → Fit env Γ → Passes G Γ
-        → All (λ b. Passes G b) R.arms → G (R.whole int) ≡ true
+        → AllByRecursion (λ b. Passes G b) R.arms → G (R.whole int) ≡ true
         → own + parts ≤ d.charge → weight (λ j. names_any j qs) 0 env + parts ≤ d.charge → NoLower d.level l → Stands (flat p.functions) c (heads_all qs)
         → Outcomes Halts d (settle p.functions a qs c env l)
     settle_kept d R own parts B (give v) qs c env Γ l o t e f g m w x y u s = record {

@@ -1,7 +1,7 @@
 -- The laws of judged programs, read off from what every step keeps.
 use Rattle.std.proofs.Common.{◌≡◌, ℕ, suc, ◌<◌, ◌≤◌, Bool, true, false, cond, ltb, leb, List, [], ◌∷◌, length, sym, refl, ap, ◌∙◌, subst, le_refl, add-one, arith}
 use mathlib.Core.Option.{Option, none, some}
-use Rattle.std.specs.List.{AllByRecursion as All}
+use Rattle.std.specs.List.{AllByRecursion}
 use Rattle.std.proofs.lemmas.Bool.{leb-true, leb-false, ltb-true, ltb-false, le-leb, lt-leb, lt-ltb}
 use Rattle.lfpl.specs.Syntax.{Ty, Fun, Program}
 use Rattle.lfpl.specs.Typing.{fun_at}
@@ -22,7 +22,7 @@ abbrev any_halt : Why → Type 0
 any_halt y = Unit {0}
 
 -- a run from its start, for any test that passes what the program writes
-reached : (G : Ty → Bool) (p : Program) (L : Limit) (f : ℕ) (xs : List Typed) (n : ℕ) → Closed G → All (λ g. Passes G (types_in g)) p.functions → Apt p f xs
+reached : (G : Ty → Bool) (p : Program) (L : Limit) (f : ℕ) (xs : List Typed) (n : ℕ) → Closed G → AllByRecursion (λ g. Passes G (types_in g)) p.functions → Apt p f xs
     → Sound p L G any_halt (fun_at p.functions f).result (charges xs) (run p L n (start p f xs)).0
 reached G p L f xs n c w (j, l, g) =
     let b = (program_law p).0 j in
@@ -36,7 +36,7 @@ any A = true
 any_closed : Closed any
 any_closed = (refl, refl, λ A h. (refl, refl))
 
-any_written : (fs : List Fun) → All (λ g. Passes any (types_in g)) fs
+any_written : (fs : List Fun) → AllByRecursion (λ g. Passes any (types_in g)) fs
 any_written [] = tt
 any_written (g ∷ fs) = (each (types_in g), any_written fs)
   where
@@ -78,7 +78,7 @@ linear_law p L f xs n a = held_charge p L (fun_at p.functions f).result (charges
 
 -- ---- numbers
 
-stood_placed : (p : Program) (L : Limit) (R : Ty) (N : ℕ) (d : Due) (K : List Frame) → Stood p L any R N d K → All (λ k. Placed (flat p.functions) k) K
+stood_placed : (p : Program) (L : Limit) (R : Ty) (N : ℕ) (d : Due) (K : List Frame) → Stood p L any R N d K → AllByRecursion (λ k. Placed (flat p.functions) k) K
 stood_placed p L R N d [] s = tt
 stood_placed p L R N d (k ∷ K) (e, w, s) = ((w.way.head, w.way.rest), stood_placed p L R N e K s)
 
@@ -103,7 +103,7 @@ limited_says l = by (leb 4096 l.height) refl (ltb 8192 l.words) refl
     by false p false q = (leb-false 4096 l.height p, ltb-false 8192 l.words q)
 
 stood_bounds : (p : Program) (R : Ty) (N : ℕ) (d : Due) (K : List Frame) → Stood p limited any R N d K
-    → (length K ≤ 4096) × (length K ≤ d.level.height) × (words_done K ≤ d.level.words) × All (λ k. (k.level.height < 4096) × (k.level.words ≤ 8192)) K
+    → (length K ≤ 4096) × (length K ≤ d.level.height) × (words_done K ≤ d.level.words) × AllByRecursion (λ k. (k.level.height < 4096) × (k.level.words ≤ 8192)) K
 stood_bounds p R N d [] s = (omega arith, omega arith, omega arith, tt)
 stood_bounds p R N d (k ∷ K) (e, w, s) =
     let r = stood_bounds p R N e K s in
@@ -132,7 +132,7 @@ bounds_law p f xs n i K a e =
 -- ---- types
 
 stood_pass : (p : Program) (L : Limit) (G : Ty → Bool) (R : Ty) (N : ℕ) (d : Due) (K : List Frame) → Stood p L G R N d K
-    → All (λ k. Pass G k.env × Pass G k.values) K
+    → AllByRecursion (λ k. Pass G k.env × Pass G k.values) K
 stood_pass p L G R N d [] s = tt
 stood_pass p L G R N d (k ∷ K) (e, w, s) =
     ((fit_pass G k.env w.way.scope w.way.env w.way.passes, fit_pass G k.values w.types w.values w.pass), stood_pass p L G R N e K s)

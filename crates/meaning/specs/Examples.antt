@@ -1,7 +1,7 @@
 -- The worked examples of the rules, of tables, values and runs: all shown by one computation over a list.
 use Rattle.std.specs.Prelude.{◌≡◌, ℕ, List, [], ◌∷◌, ◌++◌, map, pos, negsuc}
 use Rattle.std.proofs.Math.Option.{none, some}
-use Rattle.std.specs.List.{AllByRecursion as All}
+use Rattle.std.specs.List.{AllByRecursion}
 use Rattle.codec.specs.Reading.{Scan, done, refused}
 use Rattle.lfpl.specs.Syntax.{int, list_of, pair_of, Program}
 use Rattle.lfpl.specs.Admission.{admission}
@@ -119,4 +119,4 @@ examples = map comes tables ++
 
 -- every example holds
 abbrev pub ExamplesLaw : Type 0
-ExamplesLaw = All Holds examples
+ExamplesLaw = AllByRecursion Holds examples

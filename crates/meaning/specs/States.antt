@@ -1,6 +1,6 @@
 -- What a going run's state of a judged program is made of: numbers that are places in the table, no more than the limits allow, and types that the program writes.
 use Rattle.std.specs.Prelude.{◌≡◌, ℕ, ◌+◌, ◌<◌, ◌≤◌, Bool, true, List, [], ◌∷◌, ◌++◌, map, length}
-use Rattle.std.specs.List.{AllByRecursion as All}
+use Rattle.std.specs.List.{AllByRecursion}
 use Rattle.lfpl.specs.Syntax.{Ty, int, diamond, first, second, Head, var, call, const, apply, guard, mk_pair, case_pair, mkLeft, mkRight, case_sum, mk_nil, mkCons, case_list, mk_leaf, mkNode, caseTree, Expr, Exprs, expr, end, ◌then◌, Fun, Program}
 use Rattle.lfpl.specs.Values.{Typed}
 use Rattle.meaning.specs.Mean.{widths, Limit, limited}
@@ -35,7 +35,7 @@ Placed table k = Stands table k.number (k.head ∷ []) × Stands table k.coming 
 abbrev pub PlacesLaw : Type 0
 PlacesLaw =
     (p : Program) (L : Limit) (f : ℕ) (xs : List Typed) (n : ℕ) (i : Item) (K : List Frame) → Apt p f xs → (run p L n (start p f xs)).0 ≡ going i K
-    → Stands (flat p.functions) i.number (heads i.term) × All (λ k. Placed (flat p.functions) k) K
+    → Stands (flat p.functions) i.number (heads i.term) × AllByRecursion (λ k. Placed (flat p.functions) k) K
 
 -- ---- bounds
 
@@ -50,7 +50,7 @@ abbrev pub BoundsLaw : Type 0
 BoundsLaw =
     (p : Program) (f : ℕ) (xs : List Typed) (n : ℕ) (i : Item) (K : List Frame) → Apt p f xs → (run p limited n (start p f xs)).0 ≡ going i K
     → (length K ≤ 4096) × (length K ≤ i.level.height) × (words_done K ≤ i.level.words)
-    × All (λ k. (k.level.height < 4096) × (k.level.words ≤ 8192)) K
+    × AllByRecursion (λ k. (k.level.height < 4096) × (k.level.words ≤ 8192)) K
 
 -- ---- the types that occur
 
@@ -80,7 +80,7 @@ types_in f = f.params ++ (f.result ∷ map noted (heads f.body))
 module _ (G : Ty → Bool) where
   -- the test passes the types
   abbrev pub Passes : List Ty → Type 0
-  Passes As = All (λ A. G A ≡ true) As
+  Passes As = AllByRecursion (λ A. G A ≡ true) As
 
   -- the test passes N and the diamond, and what its types are made of
   abbrev pub Closed : Type 0
@@ -88,11 +88,11 @@ module _ (G : Ty → Bool) where
 
   -- the test passes the values' types
   abbrev pub Pass : List Typed → Type 0
-  Pass xs = All (λ x. G x.type ≡ true) xs
+  Pass xs = AllByRecursion (λ x. G x.type ≡ true) xs
 
 -- Only types that the program writes occur, with N, the diamond and what they are made of: whichever test passes those passes the types of all values of a run.
 abbrev pub TypesLaw : Type 0
 TypesLaw =
     (G : Ty → Bool) (p : Program) (L : Limit) (f : ℕ) (xs : List Typed) (n : ℕ) (i : Item) (K : List Frame)
-    → Closed G → All (λ g. Passes G (types_in g)) p.functions → Apt p f xs → (run p L n (start p f xs)).0 ≡ going i K
-    → Pass G i.env × All (λ k. Pass G k.env × Pass G k.values) K
+    → Closed G → AllByRecursion (λ g. Passes G (types_in g)) p.functions → Apt p f xs → (run p L n (start p f xs)).0 ≡ going i K
+    → Pass G i.env × AllByRecursion (λ k. Pass G k.env × Pass G k.values) K

@@ -1,7 +1,7 @@
 -- Cells in a list of words: what a change of one cell's words does to the pool.
 use Rattle.std.proofs.Common.{◌≡◌, ℕ, zero, suc, ◌+◌, ◌-◌, ◌*◌, ◌/◌, ◌<◌, ◌≤◌, min, true, false, cond, not, ◌&&◌, eqb, ltb, ◌≢◌, List, [], ◌∷◌, ◌++◌, length, get_or, take, drop, set, replicate, is_some, Some, None, count_by, Option, unwrap_or, sym, refl, ap, ◌∙◌, subst, ⊎_elim, arith, lit≤, below_more}
 use lib.Seq.{paste, take-set-lt}
-use Rattle.std.specs.List.{AllByRecursion as All}
+use Rattle.std.specs.List.{AllByRecursion}
 use Rattle.std.proofs.lemmas.List.Edits.{length-paste}
 use Rattle.std.proofs.lemmas.List.{take_all, get_or_append_left, get_or-append_right, length-append, drop-set-add, length-set, length-take, length-take-le, length-drop, get_or-take, get_or-drop, ext_get_or, get_or-set_same, get_or-set_other, length-replicate, get_or-replicate}
 use Rattle.std.proofs.ByRecursion.{All-from_get_or}
@@ -137,7 +137,7 @@ some_free ws i l e =
     omega (arith, one, sum_by-set spare (in_words ws) i (Some zeros) None (omega (arith, length_in ws)))
 
 -- `find`
-count_none : (cs : List Cell) → All (λ c. is_free c ≡ false) cs → count_by is_free cs ≡ 0
+count_none : (cs : List Cell) → AllByRecursion (λ c. is_free c ≡ false) cs → count_by is_free cs ≡ 0
 count_none [] h = refl
 count_none (None ∷ cs) h = absurd (true≢false h.0)
 count_none (Some x ∷ cs) h = omega (arith, count_none cs h.1, sum_by-cons spare (Some x) cs)

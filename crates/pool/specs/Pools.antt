@@ -1,7 +1,7 @@
 -- A pool of cells: what it means, what makes that lawful, and what each call does to it.
 use Rattle.std.specs.Prelude.{◌≡◌, ℕ, ◌+◌, ◌-◌, ◌<◌, ◌≤◌, min, Bool, cond, ◌&&◌, List, [], ◌∷◌, ◌++◌, length, replicate, is_some, Some, None, count_by, Option, MatchOption, nat_le, nat_lt, slice_index, slice_index_or, slice_set}
 use Rattle.std.specs.Option.{unwrap_or}
-use Rattle.std.specs.List.{AllByRecursion as All}
+use Rattle.std.specs.List.{AllByRecursion}
 
 -- a cell: its words while it is taken, nothing while it is not
 abbrev pub Cell : Type 0
@@ -37,7 +37,7 @@ Sixteen (Some ws) = length ws ≡ 16
 pub record Lawful (m : Meaning) : Type 0 where
   pub few : taken m + m.free ≤ limit m
   pub bounded : limit m ≤ 65535
-  pub wide : All Sixteen m.cells
+  pub wide : AllByRecursion Sixteen m.cells
 
 -- a pool of n cells, all free
 abbrev pub all_free : ℕ → Meaning

@@ -1,7 +1,7 @@
 -- A pool without cells.
 use Rattle.std.specs.Prelude.{◌≡◌, ℕ, zero, suc, min, cond, replicate, is_some, None, count_by, refl}
 use Rattle.std.proofs.Common.{arith}
-use Rattle.std.specs.List.{AllByRecursion as All}
+use Rattle.std.specs.List.{AllByRecursion}
 use Rattle.std.proofs.lemmas.List.{length-replicate}
 use Rattle.std.proofs.lemmas.List.Sums.{sum_by-cons}
 use Rattle.pool.specs.Pools.{Cell, Meaning, Sixteen, Lawful}
@@ -16,7 +16,7 @@ none_taken zero = refl
 none_taken (suc n) = omega (arith, none_taken n, sum_by-cons (λ x. cond (is_some x) 1 0) None (replicate {A = Cell} n None))
 
 -- none has too few words
-all_sixteen : (n : ℕ) → All Sixteen (replicate n None)
+all_sixteen : (n : ℕ) → AllByRecursion Sixteen (replicate n None)
 all_sixteen zero = tt
 all_sixteen (suc n) = (tt, all_sixteen n)
 
