@@ -5,7 +5,7 @@ usage: python3 tools/respell.py [--list]       at the top of the repository; --l
 
 Functions, lemmas, fields and parameters are written in snake case, types and modules in camel case. The script reads which names the files of specs/ and proofs/
 declare, and rewrites each whole word that is one of them in .antt files, and in .rt files outside strings. Names that Rattle makes (goals, and steps behind `c.`)
-stay. It was run once, after port.py; a second run finds nothing to do.
+stay. It was run after port.py; a second run finds nothing to do.
 """
 
 import glob
@@ -41,6 +41,30 @@ CHOSEN = {
     "readTable": "scanned_table",
     "shapes-are-the-rules": "the_shapes_are_the_rules",
     "widthsOf": "type_widths",
+    # constructors that share a line, and parameters
+    "caseTree": "case_tree",
+    "mkCons": "mk_cons",
+    "mkLeft": "mk_left",
+    "mkNode": "mk_node",
+    "mkRight": "mk_right",
+    "at-arms": "at_arms",
+    "at-m": "at_m",
+    "at-parts": "at_parts",
+    "f-is": "f_is",
+    "fit-in": "fit_in",
+    "free-there": "free_there",
+    "held-still": "held_still",
+    "is-about": "is_about",
+    "is-bare": "is_bare",
+    "is-filled": "says_filled",
+    "is-value": "is_value",
+    "k-in": "k_in",
+    "nodes-made": "nodes_made",
+    "one-off": "one_off",
+    "starts-made": "starts_made",
+    "to-here": "to_here",
+    "to-later": "to_later",
+    "z-is": "z_is",
 }
 
 
@@ -115,6 +139,7 @@ def mapping():
     for name in imported(True):
         if re.search("[a-z]", name) and not GOOD.fullmatch(name) and name not in names and name not in outside:
             names[name] = respelled(name, [("", "x", "")])
+    names.update((a, b) for a, b in CHOSEN.items() if a not in names and a not in outside)
     return {a: b for a, b in names.items() if a != b}
 
 

@@ -3,7 +3,7 @@ use Rattle.std.proofs.Common.{◌≡◌, ℕ, ◌+◌, ◌<◌, Bool, true, fals
 use lib.Signed.{le_z}
 use Rattle.std.proofs.lemmas.Int.{to_z-of_z, SFits-int_wrap}
 use Rattle.std.proofs.lemmas.Bool.{ltb-true, eq-eqb, or_left}
-use Rattle.lfpl.specs.Syntax.{Infix, plus, minus, times, equal, at_most, Ty, int, list_of, tree_of, pair_of, sum_of, width, first, second, Head, var, const, apply, mk_pair, mkLeft, mkRight, mk_nil, mk_leaf, expr, end, names, names_any, Exprs, Fun}
+use Rattle.lfpl.specs.Syntax.{Infix, plus, minus, times, equal, at_most, Ty, int, list_of, tree_of, pair_of, sum_of, width, first, second, Head, var, const, apply, mk_pair, mk_left, mk_right, mk_nil, mk_leaf, expr, end, names, names_any, Exprs, Fun}
 use Rattle.lfpl.specs.Typing.{type_at}
 use Rattle.lfpl.specs.Values.{Val, num, nil, leaf, pair, left, right, Typed, ◌of◌}
 use Rattle.lfpl.proofs.SameTypes.{same_eq}
@@ -147,24 +147,24 @@ module _ (fs : List Fun) (m : Meaning) (ws : List ℕ) (base at dest : ℕ) (qs 
       gives fs m ws base at dest qs env ps B W h (a ∷ []) r m' ys (v of A) n e w (f d.mark_is k.0) d.above
       (λ c. omega (arith, ap (λ l. occ c l) p.1, ap (λ l. occ c l) k.1, ap (λ l. occ c l) g, occ_append c (cells_at m ws a at) []))
 
-  pub left_right : (A : Ty) (a : Typed) → Right fs m ws base at dest qs env ps B W (mkLeft A) (a ∷ [])
+  pub left_right : (A : Ty) (a : Typed) → Right fs m ws base at dest qs env ps B W (mk_left A) (a ∷ [])
   unfolding Shows footprint
   left_right A a s =
-      let t = known fs m ws base at dest qs env ps B W (mkLeft A) (a ∷ []) s in
+      let t = known fs m ws base at dest qs env ps B W (mk_left A) (a ∷ []) s in
       let x = same_eq A (sum_of (first A) (second A)) t.0 in (
-        roomed fs m ws base at dest qs env ps B W (mkLeft A) (a ∷ []) s (omega (arith, s.narrow.low, ap width s.whole, ap width x)),
+        roomed fs m ws base at dest qs env ps B W (mk_left A) (a ∷ []) s (omega (arith, s.narrow.low, ap width s.whole, ap width x)),
         λ r m' ys e.
-            tag_gave (mkLeft A) a r m' ys A (first A) 0 (left a.value) s t.1 e.0 e.1 s.whole e.2 (λ k y. (x, k, y)) refl,
+            tag_gave (mk_left A) a r m' ys A (first A) 0 (left a.value) s t.1 e.0 e.1 s.whole e.2 (λ k y. (x, k, y)) refl,
       )
 
-  pub right_right : (A : Ty) (a : Typed) → Right fs m ws base at dest qs env ps B W (mkRight A) (a ∷ [])
+  pub right_right : (A : Ty) (a : Typed) → Right fs m ws base at dest qs env ps B W (mk_right A) (a ∷ [])
   unfolding Shows footprint
   right_right A a s =
-      let t = known fs m ws base at dest qs env ps B W (mkRight A) (a ∷ []) s in
+      let t = known fs m ws base at dest qs env ps B W (mk_right A) (a ∷ []) s in
       let x = same_eq A (sum_of (first A) (second A)) t.0 in (
-        roomed fs m ws base at dest qs env ps B W (mkRight A) (a ∷ []) s (omega (arith, s.narrow.low, ap width s.whole, ap width x)),
+        roomed fs m ws base at dest qs env ps B W (mk_right A) (a ∷ []) s (omega (arith, s.narrow.low, ap width s.whole, ap width x)),
         λ r m' ys e.
-            tag_gave (mkRight A) a r m' ys A (second A) 1 (right a.value) s t.1 e.0 e.1 s.whole e.2 (λ k y. (x, k, y)) refl,
+            tag_gave (mk_right A) a r m' ys A (second A) 1 (right a.value) s t.1 e.0 e.1 s.whole e.2 (λ k y. (x, k, y)) refl,
       )
 
   pub leaf_right : (A : Ty) (a : Typed) → Right fs m ws base at dest qs env ps B W (mk_leaf A) (a ∷ [])

@@ -3,7 +3,7 @@ use Rattle.std.proofs.Common.{◌≡◌, ℕ, zero, suc, ◌+◌, ◌-◌, ◌^�
 use mir.Val.{sel}
 use Rattle.std.proofs.lemmas.Bool.{cond-false, ne_eqb, leb-true}
 use Rattle.lfpl.specs.Reading.{roomy}
-use Rattle.lfpl.specs.Syntax.{Ty, int, diamond, list_of, tree_of, pair_of, sum_of, width, first, second, Head, guard, case_pair, case_sum, case_list, caseTree, Exprs, Fun}
+use Rattle.lfpl.specs.Syntax.{Ty, int, diamond, list_of, tree_of, pair_of, sum_of, width, first, second, Head, guard, case_pair, case_sum, case_list, case_tree, Exprs, Fun}
 use Rattle.lfpl.specs.Typing.{type_at, opened, rule}
 use Rattle.lfpl.specs.Values.{Val, dia, cons, node, Typed, ◌of◌}
 use Rattle.lfpl.proofs.SameTypes.{same_eq}
@@ -189,9 +189,9 @@ module _ (fs : List Fun) (m : Meaning) (ws : List ℕ) (base at dest : ℕ) (qs 
       )
 
   -- a node is spread out: its two cells, its label and its subtrees follow one another
-  spread_node : (a : Typed) (T : Ty) (v₁ v₂ v₃ : Val) (r : Next) (m' : Meaning) (ys : List ℕ) → T ≡ tree_of (first T) → (rule fs (types env) caseTree (types (a ∷ []))).arms ≡ opened T
+  spread_node : (a : Typed) (T : Ty) (v₁ v₂ v₃ : Val) (r : Next) (m' : Meaning) (ys : List ℕ) → T ≡ tree_of (first T) → (rule fs (types env) case_tree (types (a ∷ []))).arms ≡ opened T
       → r ≡ Second → m' ≡ m → Spread m ws ys at (width (first T)) → Shows m T (node v₁ v₂ v₃) ws at → cells_at m ws a at ≡ footprint m T (node v₁ v₂ v₃) ws at
-      → Chose fs m ws base at dest caseTree qs env (a ∷ []) ps W r m' ys 1 (dia of diamond ∷ dia of diamond ∷ v₁ of first T ∷ v₂ of T ∷ v₃ of T ∷ [])
+      → Chose fs m ws base at dest case_tree qs env (a ∷ []) ps W r m' ys 1 (dia of diamond ∷ dia of diamond ∷ v₁ of first T ∷ v₂ of T ∷ v₃ of T ∷ [])
   unfolding Shows footprint
   spread_node a T v₁ v₂ v₃ r m' ys x y n p d s f =
       let k = width (first T) in
@@ -210,7 +210,7 @@ module _ (fs : List Fun) (m : Meaning) (ws : List ℕ) (base at dest : ℕ) (qs 
       let g₁ = footprint m (first T) v₁ ys (at + 1 + 1) in
       let g₂ = footprint m T v₂ ys (at + 1 + 1 + k) in
       let g₃ = footprint m T v₃ ys (at + 1 + 1 + k + width T) in
-      chose caseTree a r m' ys 1 (dia of diamond ∷ dia of diamond ∷ v₁ of first T ∷ v₂ of T ∷ v₃ of T ∷ [])
+      chose case_tree a r m' ys 1 (dia of diamond ∷ dia of diamond ∷ v₁ of first T ∷ v₂ of T ∷ v₃ of T ∷ [])
       ((first T ∷ []) ∷ (diamond ∷ diamond ∷ first T ∷ tree_of (first T) ∷ tree_of (first T) ∷ []) ∷ []) (y ∙ ap opened x) n p d.above (
         λ q. record { shows = (refl, ap (used m) d.left_is ∙ s.3); below = omega arith },
         (
@@ -236,14 +236,14 @@ module _ (fs : List Fun) (m : Meaning) (ws : List ℕ) (base at dest : ℕ) (qs 
         occ_append c g₃ [],
       )) (omega arith) (ap (λ X. diamond ∷ diamond ∷ first T ∷ X ∷ X ∷ []) x) (omega arith)
 
-  pub tree_right : (a : Typed) → Right fs m ws base at dest qs env ps B W caseTree (a ∷ [])
+  pub tree_right : (a : Typed) → Right fs m ws base at dest qs env ps B W case_tree (a ∷ [])
   unfolding Shows footprint
   tree_right a s =
       let T = a.type in
-      let t = known fs m ws base at dest qs env ps B W caseTree (a ∷ []) s in
+      let t = known fs m ws base at dest qs env ps B W case_tree (a ∷ []) s in
       let x = same_eq T (tree_of (first T)) t.0 in
       let v = shown_tree m ws at (first T) a.value (subst (λ T. Shows m T a.value ws at) x (s.values.0 refl).shows) in (
-        roomed fs m ws base at dest qs env ps B W caseTree (a ∷ []) s (
+        roomed fs m ws base at dest qs env ps B W case_tree (a ∷ []) s (
           omega (arith, s.parts.0.low, ap width x),
           λ p. elim v [
             | inl h ↦ absurd (omega (arith, h.0))
@@ -253,13 +253,13 @@ module _ (fs : List Fun) (m : Meaning) (ws : List ℕ) (base at dest : ℕ) (qs 
         λ r m' ys e. elim v [
           | inl h ↦
               let k = e.1.0 h.0 in
-              subst (λ (u : Val). Acts fs m ws base at dest caseTree qs env (a ∷ []) ps W r m' ys (unmake T u)) (sym h.1.1)
-              (unmarked caseTree a r m' ys 0 (first T) h.1.0 ((first T ∷ []) ∷ (diamond ∷ diamond ∷ first T ∷ tree_of (first T) ∷ tree_of (first T) ∷ []) ∷ []) (ap opened x) k.0 e.0 k.1
+              subst (λ (u : Val). Acts fs m ws base at dest case_tree qs env (a ∷ []) ps W r m' ys (unmake T u)) (sym h.1.1)
+              (unmarked case_tree a r m' ys 0 (first T) h.1.0 ((first T ∷ []) ∷ (diamond ∷ diamond ∷ first T ∷ tree_of (first T) ∷ tree_of (first T) ∷ []) ∷ []) (ap opened x) k.0 e.0 k.1
               h.1.2 (ap (λ u. footprint m T u ws at) h.1.1) (omega arith) refl (omega arith))
           | inr h ↦
               let k = e.1.1 (omega (arith, h.0)) in
               let g = h.1 in
-              subst (λ (u : Val). Acts fs m ws base at dest caseTree qs env (a ∷ []) ps W r m' ys (unmake T u)) (sym g.3)
+              subst (λ (u : Val). Acts fs m ws base at dest case_tree qs env (a ∷ []) ps W r m' ys (unmake T u)) (sym g.3)
               (spread_node a T g.0 g.1 g.2 r m' ys x refl k.0 e.0 k.1 (subst (λ u. Shows m T u ws at) g.3 (s.values.0 refl).shows) (ap (λ u. footprint m T u ws at) g.3))
         ],
       )

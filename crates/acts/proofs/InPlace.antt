@@ -1,7 +1,7 @@
 -- The law, head by head.
 use Rattle.std.proofs.Common.{ℕ, Bool, cond, List, length, sym, refl, ap, subst}
 use Rattle.std.proofs.lemmas.Bool.{ltb-true}
-use Rattle.lfpl.specs.Syntax.{Ty, Head, var, call, const, apply, guard, mk_pair, case_pair, mkLeft, mkRight, case_sum, mk_nil, mkCons, case_list, mk_leaf, mkNode, caseTree, Exprs, Fun}
+use Rattle.lfpl.specs.Syntax.{Ty, Head, var, call, const, apply, guard, mk_pair, case_pair, mk_left, mk_right, case_sum, mk_nil, mk_cons, case_list, mk_leaf, mk_node, case_tree, Exprs, Fun}
 use Rattle.lfpl.specs.Values.{Typed}
 use Rattle.meaning.specs.Act.{stuck, does}
 use Rattle.pool.specs.Pools.{Meaning}
@@ -41,26 +41,26 @@ module _ (fs : List Fun) (m : Meaning) (ws : List ℕ) (base at dest : ℕ) (qs 
       (pair_right fs m ws base at dest qs env ps B W A) s
   head_right case_pair vs s =
       by1 (Right fs m ws base at dest qs env ps B W case_pair) vs (ap length (known fs m ws base at dest qs env ps B W case_pair vs s).1) (split_right fs m ws base at dest qs env ps B W) s
-  head_right (mkLeft A) vs s =
-      by1 (Right fs m ws base at dest qs env ps B W (mkLeft A)) vs (ap length (known fs m ws base at dest qs env ps B W (mkLeft A) vs s).1)
+  head_right (mk_left A) vs s =
+      by1 (Right fs m ws base at dest qs env ps B W (mk_left A)) vs (ap length (known fs m ws base at dest qs env ps B W (mk_left A) vs s).1)
       (left_right fs m ws base at dest qs env ps B W A) s
-  head_right (mkRight A) vs s =
-      by1 (Right fs m ws base at dest qs env ps B W (mkRight A)) vs (ap length (known fs m ws base at dest qs env ps B W (mkRight A) vs s).1)
+  head_right (mk_right A) vs s =
+      by1 (Right fs m ws base at dest qs env ps B W (mk_right A)) vs (ap length (known fs m ws base at dest qs env ps B W (mk_right A) vs s).1)
       (right_right fs m ws base at dest qs env ps B W A) s
   head_right case_sum vs s =
       by1 (Right fs m ws base at dest qs env ps B W case_sum) vs (ap length (known fs m ws base at dest qs env ps B W case_sum vs s).1) (sum_right fs m ws base at dest qs env ps B W) s
   head_right (mk_nil A) vs s = nil_right fs m ws base at dest qs env ps B W A vs s
-  head_right mkCons vs s =
-      by3 (Right fs m ws base at dest qs env ps B W mkCons) vs (ap length (known fs m ws base at dest qs env ps B W mkCons vs s).1) (cons_right fs m ws base at dest qs env ps B W) s
+  head_right mk_cons vs s =
+      by3 (Right fs m ws base at dest qs env ps B W mk_cons) vs (ap length (known fs m ws base at dest qs env ps B W mk_cons vs s).1) (cons_right fs m ws base at dest qs env ps B W) s
   head_right case_list vs s =
       by1 (Right fs m ws base at dest qs env ps B W case_list) vs (ap length (known fs m ws base at dest qs env ps B W case_list vs s).1) (list_right fs m ws base at dest qs env ps B W) s
   head_right (mk_leaf A) vs s =
       by1 (Right fs m ws base at dest qs env ps B W (mk_leaf A)) vs (ap length (known fs m ws base at dest qs env ps B W (mk_leaf A) vs s).1)
       (leaf_right fs m ws base at dest qs env ps B W A) s
-  head_right mkNode vs s =
-      by5 (Right fs m ws base at dest qs env ps B W mkNode) vs (ap length (known fs m ws base at dest qs env ps B W mkNode vs s).1) (node_right fs m ws base at dest qs env ps B W) s
-  head_right caseTree vs s =
-      by1 (Right fs m ws base at dest qs env ps B W caseTree) vs (ap length (known fs m ws base at dest qs env ps B W caseTree vs s).1) (tree_right fs m ws base at dest qs env ps B W) s
+  head_right mk_node vs s =
+      by5 (Right fs m ws base at dest qs env ps B W mk_node) vs (ap length (known fs m ws base at dest qs env ps B W mk_node vs s).1) (node_right fs m ws base at dest qs env ps B W) s
+  head_right case_tree vs s =
+      by1 (Right fs m ws base at dest qs env ps B W case_tree) vs (ap length (known fs m ws base at dest qs env ps B W case_tree vs s).1) (tree_right fs m ws base at dest qs env ps B W) s
 
 -- where the types fit, what an expression does is what its head does
 pub in_place_law : InPlaceLaw

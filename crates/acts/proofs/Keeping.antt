@@ -2,7 +2,7 @@
 use Rattle.std.proofs.Common.{◌≡◌, ℕ, ◌+◌, List, [], ◌∷◌, ◌++◌, get_or, unwrap_or, sym, refl, ap, ◌∙◌, subst, ap₂, inl, inr, arith, get_or-set_same}
 use Rattle.std.proofs.lemmas.Bool.{cases_eq, leb-true}
 use Rattle.lfpl.specs.Reading.{roomy}
-use Rattle.lfpl.specs.Syntax.{Ty, diamond, list_of, tree_of, width, first, mkCons, mkNode, Exprs, Fun}
+use Rattle.lfpl.specs.Syntax.{Ty, diamond, list_of, tree_of, width, first, mk_cons, mk_node, Exprs, Fun}
 use Rattle.lfpl.specs.Typing.{type_at}
 use Rattle.lfpl.specs.Values.{Val, cons, node, Typed}
 use Rattle.lfpl.proofs.SameTypes.{same_eq}
@@ -70,13 +70,13 @@ node_shown m T v₁ v₂ v₃ ys dest cl cr g gl gr x s₁ ul s₂ ur s₃ = (
 )
 
 module _ (fs : List Fun) (m : Meaning) (ws : List ℕ) (base at dest : ℕ) (qs : Exprs) (env : List Typed) (ps : List ℕ) (B W : Ty) where
-  pub cons_right : (d a b : Typed) → Right fs m ws base at dest qs env ps B W mkCons (d ∷ a ∷ b ∷ [])
+  pub cons_right : (d a b : Typed) → Right fs m ws base at dest qs env ps B W mk_cons (d ∷ a ∷ b ∷ [])
   cons_right d a b s =
       let vs = d ∷ a ∷ b ∷ [] in
       let T = b.type in
       let k = width (first T) in
       let c = get_or ws at 0 in
-      let t = known fs m ws base at dest qs env ps B W mkCons vs s in
+      let t = known fs m ws base at dest qs env ps B W mk_cons vs s in
       let x = same_eq T (list_of (first T)) t.0 in
       let td = ap (λ l. type_at l 0) t.1 in
       let ta = ap (λ l. type_at l 1) t.1 in
@@ -90,8 +90,8 @@ module _ (fs : List Fun) (m : Meaning) (ws : List ℕ) (base at dest : ℕ) (qs 
       let yb = cells_at m ws b (at + width d.type + width a.type) in
       let fa = footprint m (first T) a.value ws (at + 1) in
       let fb = footprint m T b.value ws (at + 1 + k) in
-      let xc = variable_cells fs m ws base at dest mkCons qs env vs ps in
-      let yc = value_cells fs m ws base at dest mkCons qs env vs ps in
+      let xc = variable_cells fs m ws base at dest mk_cons qs env vs ps in
+      let yc = value_cells fs m ws base at dest mk_cons qs env vs ps in
       let total : (i : ℕ) → occ i (xc ++ yc) ≡ occ i xc + (occ i (c ∷ []) + (occ i fa + occ i fb)) =
       λ i. omega (
         arith,
@@ -103,7 +103,7 @@ module _ (fs : List Fun) (m : Meaning) (ws : List ℕ) (base at dest : ℕ) (qs 
         ap (λ l. occ i l) pa.1,
         ap (λ l. occ i l) pb.1,
       ) in (
-        roomed fs m ws base at dest qs env ps B W mkCons vs s (leb-true k 15 (sym (ap roomy x) ∙ ap roomy s.whole ∙ s.narrow.element), pd.0),
+        roomed fs m ws base at dest qs env ps B W mk_cons vs s (leb-true k 15 (sym (ap roomy x) ∙ ap roomy s.whole ∙ s.narrow.element), pd.0),
         λ r m' ys e.
             let kept = e.1 in
             let cs = words_of m' c in
@@ -135,14 +135,14 @@ module _ (fs : List Fun) (m : Meaning) (ws : List ℕ) (base at dest : ℕ) (qs 
             },
       )
 
-  pub node_right : (d e a l r : Typed) → Right fs m ws base at dest qs env ps B W mkNode (d ∷ e ∷ a ∷ l ∷ r ∷ [])
+  pub node_right : (d e a l r : Typed) → Right fs m ws base at dest qs env ps B W mk_node (d ∷ e ∷ a ∷ l ∷ r ∷ [])
   node_right d e a l r s =
       let vs = d ∷ e ∷ a ∷ l ∷ r ∷ [] in
       let T = l.type in
       let k = width (first T) in
       let cl = get_or ws at 0 in
       let cr = get_or ws (at + 1) 0 in
-      let t = known fs m ws base at dest qs env ps B W mkNode vs s in
+      let t = known fs m ws base at dest qs env ps B W mk_node vs s in
       let x = same_eq T (tree_of (first T)) t.0 in
       let w = ap width x in
       let td = ap (λ l. type_at l 0) t.1 in
@@ -169,8 +169,8 @@ module _ (fs : List Fun) (m : Meaning) (ws : List ℕ) (base at dest : ℕ) (qs 
       let fa = footprint m (first T) a.value ws (at + 2) in
       let fl = footprint m T l.value ws (at + 2 + k) in
       let fr = footprint m T r.value ws (at + 2 + k + (k + 3)) in
-      let xc = variable_cells fs m ws base at dest mkNode qs env vs ps in
-      let yc = value_cells fs m ws base at dest mkNode qs env vs ps in
+      let xc = variable_cells fs m ws base at dest mk_node qs env vs ps in
+      let yc = value_cells fs m ws base at dest mk_node qs env vs ps in
       let total : (i : ℕ) → occ i (xc ++ yc) ≡ occ i xc + (occ i (cl ∷ []) + (occ i (cr ∷ []) + (occ i fa + (occ i fl + occ i fr)))) =
       λ i. omega (
         arith,
@@ -186,7 +186,7 @@ module _ (fs : List Fun) (m : Meaning) (ws : List ℕ) (base at dest : ℕ) (qs 
         ap (λ l. occ i l) pl.1,
         ap (λ l. occ i l) pr.1,
       ) in (
-        roomed fs m ws base at dest qs env ps B W mkNode vs s (omega (arith, s.narrow.low, ap width s.whole), pd.0, pe.0),
+        roomed fs m ws base at dest qs env ps B W mk_node vs s (omega (arith, s.narrow.low, ap width s.whole), pd.0, pe.0),
         λ n m' ys h.
             let f = h.1 in
             let mid = f.between in

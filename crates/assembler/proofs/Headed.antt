@@ -5,7 +5,7 @@ use Rattle.code.specs.Standing.{operation, Apart}
 use Rattle.code.specs.declared.Op.TheVariants.{Variable, Call, Pair, Tag, Cons, Fork}
 use Rattle.lfpl.proofs.SameTypes.{sames_eq}
 use Rattle.lfpl.specs.Judge.{count, parts_naming, shares}
-use Rattle.lfpl.specs.Syntax.{Ty, width, first, second, is_heap_free, Head, var, call, const, apply, guard, mk_pair, case_pair, mkLeft, mkRight, case_sum, mk_nil, mkCons, case_list, mk_leaf, mkNode, caseTree, Exprs, names_any, Fun}
+use Rattle.lfpl.specs.Syntax.{Ty, width, first, second, is_heap_free, Head, var, call, const, apply, guard, mk_pair, case_pair, mk_left, mk_right, case_sum, mk_nil, mk_cons, case_list, mk_leaf, mk_node, case_tree, Exprs, names_any, Fun}
 use Rattle.lfpl.specs.Typing.{type_at, fun_at, rule, fits, same_tys}
 use Rattle.meaning.specs.Machine.{body_number}
 use Rattle.tables.specs.Listed.{head_by}
@@ -34,15 +34,15 @@ module _ (fs : List Fun) (Γ As : List Ty) where
   one_part guard c f = one_by guard refl f
   one_part (mk_pair A) c f = absurd (let z : ◌≡◌ {A = ℕ} 0 1 = cc in omega arith)
   one_part case_pair c f = one_by case_pair refl f
-  one_part (mkLeft A) c f = absurd (let z : ◌≡◌ {A = ℕ} 0 1 = cc in omega arith)
-  one_part (mkRight A) c f = absurd (let z : ◌≡◌ {A = ℕ} 0 1 = cc in omega arith)
+  one_part (mk_left A) c f = absurd (let z : ◌≡◌ {A = ℕ} 0 1 = cc in omega arith)
+  one_part (mk_right A) c f = absurd (let z : ◌≡◌ {A = ℕ} 0 1 = cc in omega arith)
   one_part case_sum c f = one_by case_sum refl f
   one_part (mk_nil A) c f = absurd (let z : ◌≡◌ {A = ℕ} 0 1 = cc in omega arith)
-  one_part mkCons c f = absurd (let z : ◌≡◌ {A = ℕ} 0 1 = cc in omega arith)
+  one_part mk_cons c f = absurd (let z : ◌≡◌ {A = ℕ} 0 1 = cc in omega arith)
   one_part case_list c f = one_by case_list refl f
   one_part (mk_leaf A) c f = absurd (let z : ◌≡◌ {A = ℕ} 0 1 = cc in omega arith)
-  one_part mkNode c f = absurd (let z : ◌≡◌ {A = ℕ} 0 1 = cc in omega arith)
-  one_part caseTree c f = one_by caseTree refl f
+  one_part mk_node c f = absurd (let z : ◌≡◌ {A = ℕ} 0 1 = cc in omega arith)
+  one_part case_tree c f = one_by case_tree refl f
 
   -- any other expression has no arms
   pub no_arms : (h : Head) → is_choice_head h ≡ false → (rule fs Γ h As).arms ≡ []
@@ -53,15 +53,15 @@ module _ (fs : List Fun) (Γ As : List Ty) where
   no_arms guard c = absurd (let z : ◌≡◌ {A = ℕ} 0 1 = cc in omega arith)
   no_arms (mk_pair A) c = refl
   no_arms case_pair c = absurd (let z : ◌≡◌ {A = ℕ} 0 1 = cc in omega arith)
-  no_arms (mkLeft A) c = refl
-  no_arms (mkRight A) c = refl
+  no_arms (mk_left A) c = refl
+  no_arms (mk_right A) c = refl
   no_arms case_sum c = absurd (let z : ◌≡◌ {A = ℕ} 0 1 = cc in omega arith)
   no_arms (mk_nil A) c = refl
-  no_arms mkCons c = refl
+  no_arms mk_cons c = refl
   no_arms case_list c = absurd (let z : ◌≡◌ {A = ℕ} 0 1 = cc in omega arith)
   no_arms (mk_leaf A) c = refl
-  no_arms mkNode c = refl
-  no_arms caseTree c = absurd (let z : ◌≡◌ {A = ℕ} 0 1 = cc in omega arith)
+  no_arms mk_node c = refl
+  no_arms case_tree c = absurd (let z : ◌≡◌ {A = ℕ} 0 1 = cc in omega arith)
 
   -- at most six parts
   few_by : (h : Head) (n : ℕ) → length (rule fs Γ h As).wants ≡ n → n ≤ 6 → fits (rule fs Γ h As) As ≡ true → length As ≤ 6
@@ -76,15 +76,15 @@ module _ (fs : List Fun) (Γ As : List Ty) where
     few_parts guard f = few_by guard 1 refl (omega arith) f
     few_parts (mk_pair A) f = few_by (mk_pair A) 2 refl (omega arith) f
     few_parts case_pair f = few_by case_pair 1 refl (omega arith) f
-    few_parts (mkLeft A) f = few_by (mkLeft A) 1 refl (omega arith) f
-    few_parts (mkRight A) f = few_by (mkRight A) 1 refl (omega arith) f
+    few_parts (mk_left A) f = few_by (mk_left A) 1 refl (omega arith) f
+    few_parts (mk_right A) f = few_by (mk_right A) 1 refl (omega arith) f
     few_parts case_sum f = few_by case_sum 1 refl (omega arith) f
     few_parts (mk_nil A) f = few_by (mk_nil A) 0 refl (omega arith) f
-    few_parts mkCons f = few_by mkCons 3 refl (omega arith) f
+    few_parts mk_cons f = few_by mk_cons 3 refl (omega arith) f
     few_parts case_list f = few_by case_list 1 refl (omega arith) f
     few_parts (mk_leaf A) f = few_by (mk_leaf A) 1 refl (omega arith) f
-    few_parts mkNode f = few_by mkNode 5 refl (omega arith) f
-    few_parts caseTree f = few_by caseTree 1 refl (omega arith) f
+    few_parts mk_node f = few_by mk_node 5 refl (omega arith) f
+    few_parts case_tree f = few_by case_tree 1 refl (omega arith) f
 
   -- the operation by the type that it is about is the head's
   pub worked : (ps : List ℕ) (h : Head) (B W : Ty) (place start : ℕ) → (rule fs Γ h As).whole B ≡ W → ((i : ℕ) → h ≡ var i → place ≡ get_or ps i 0)
@@ -97,15 +97,15 @@ module _ (fs : List Fun) (Γ As : List Ty) where
   worked ps guard B W place start w p s = refl
   worked ps (mk_pair A) B W place start w p s = ap (λ (X : Ty). Pair (width X)) (sym w)
   worked ps case_pair B W place start w p s = refl
-  worked ps (mkLeft A) B W place start w p s = ap (λ (X : Ty). Tag 0 (width (first X))) (sym w)
-  worked ps (mkRight A) B W place start w p s = ap (λ (X : Ty). Tag 1 (width (second X))) (sym w)
+  worked ps (mk_left A) B W place start w p s = ap (λ (X : Ty). Tag 0 (width (first X))) (sym w)
+  worked ps (mk_right A) B W place start w p s = ap (λ (X : Ty). Tag 1 (width (second X))) (sym w)
   worked ps case_sum B W place start w p s = refl
   worked ps (mk_nil A) B W place start w p s = refl
-  worked ps mkCons B W place start w p s = ap (λ (X : Ty). Cons (width (first X))) (sym w)
+  worked ps mk_cons B W place start w p s = ap (λ (X : Ty). Cons (width (first X))) (sym w)
   worked ps case_list B W place start w p s = refl
   worked ps (mk_leaf A) B W place start w p s = ap (λ (X : Ty). Tag 0 (width (first X))) (sym w)
-  worked ps mkNode B W place start w p s = ap (λ (X : Ty). Fork (width (first X))) (sym w)
-  worked ps caseTree B W place start w p s = refl
+  worked ps mk_node B W place start w p s = ap (λ (X : Ty). Fork (width (first X))) (sym w)
+  worked ps case_tree B W place start w p s = refl
 
 -- the function that is called exists
 pub called : (fs : List Fun) (Γ As : List Ty) (h : Head) (f : ℕ) → h ≡ call f → fits (rule fs Γ h As) As ≡ true → f < length fs

@@ -25,12 +25,12 @@ about_own t h n b x l p q e =
     e ∙ ap (note_at t.notes) (own n l) ∙ ap (λ (y : Bool). cond y (note_at t.notes ((n + 1) % 512)) (note_at t.notes n)) (sym q ∙ p)
 
 module _ (t : Table) (n : ℕ) (x : L.Node) (note about : Note) (small : n < 512) (listed : x ≡ listed_at t n) (noted : note ≡ note_at t.notes (n % 512))
-    (is-about : (ts : List Ty) → about ≡ about_at t (head_of ts x) n) where
+    (is_about : (ts : List Ty) → about ≡ about_at t (head_of ts x) n) where
   here : note ≡ note_at t.notes n
   here = noted ∙ ap (note_at t.notes) (own n small)
 
   about_it : (ts : List Ty) → about ≡ about_at t (head_of ts (listed_at t n)) n
-  about_it ts = is-about ts ∙ ap (λ (y : L.Node). about_at t (head_of ts y) n) listed
+  about_it ts = is_about ts ∙ ap (λ (y : L.Node). about_at t (head_of ts y) n) listed
 
   pub made : (op : Op) (place start begin over arms last : ℕ) (w : Widths)
       → ((ts : List Ty) → op ≡ operation_by (head_of ts x) place start w) → place ≡ word_of note.place → start ≡ word_of begin → begin ≡ get_or t.starts (x.number % 32) 0

@@ -122,7 +122,7 @@ module _ (t : Table) (ts : List Ty) (fs : List Fun) (code : Code) (basis : Basis
   none_noted (q then qs) n (b ∷ bs) Γ ps over B e d = absurd (let z : ◌≡◌ {A = ℕ} 0 1 = cc in omega arith)
 
   module _ (n : ℕ) (x : L.Node) (es qs : Exprs) (Γ : List Ty) (ps : List ℕ) (over : ℕ) (As : List Ty) (B W : Ty) (listed : x ≡ listed_at t n)
-      (fit-in : n + size (expr (head_of ts x) es qs) ≤ length nodes) (low : Low ps over)
+      (fit_in : n + size (expr (head_of ts x) es qs) ≤ length nodes) (low : Low ps over)
       (at : LaidAt ts fs notes n (head_of ts x) es qs Γ ps over As B W) (all : LaidAll ts fs notes es (n + 1) Γ ps over As)
       (arms : LaidArms ts fs notes qs (n + 1 + sizes es) (rule fs Γ (head_of ts x) As).arms Γ ps over B) where
     inside : n < 512
@@ -240,13 +240,13 @@ module _ (t : Table) (ts : List Ty) (fs : List Fun) (code : Code) (basis : Basis
 
 -- ---- programs
 
-module _ (t : Table) (p : Program) (code : Code) (c : Carries t p) (nodes-made : (n : ℕ) → n < 512 → Made t n (get_or code.nodes n no_node))
-    (starts-made : (f : ℕ) → f < 32 → get_or code.starts f 0 ≡ word_of (get_or t.starts f 0)) where
+module _ (t : Table) (p : Program) (code : Code) (c : Carries t p) (nodes_made : (n : ℕ) → n < 512 → Made t n (get_or code.nodes n no_node))
+    (starts_made : (f : ℕ) → f < 32 → get_or code.starts f 0 ≡ word_of (get_or t.starts f 0)) where
   abbrev fs : List Fun
   fs = p.functions
 
   made : (n : ℕ) → n < 512 → Made t n (node_at code n)
-  made n h = subst (λ (m : ℕ). Made t n (get_or code.nodes m no_node)) (sym (own n h)) (nodes-made n h)
+  made n h = subst (λ (m : ℕ). Made t n (get_or code.nodes m no_node)) (sym (own n h)) (nodes_made n h)
 
   few_functions : (f : ℕ) → f < length fs → f < 32
   few_functions f h = let m = (held t.listing p c.listing).basis.few in omega arith
@@ -273,7 +273,7 @@ module _ (t : Table) (p : Program) (code : Code) (c : Carries t p) (nodes-made :
         starts = λ f h.
             let b = begun f h in
             let l = early f h in
-            ap (λ (m : ℕ). get_or code.starts m 0) (number f h) ∙ starts-made f (few_functions f h) ∙ ap word_of b ∙ word_is (body_number fs f) (omega arith);
+            ap (λ (m : ℕ). get_or code.starts m 0) (number f h) ∙ starts_made f (few_functions f h) ∙ ap word_of b ∙ word_is (body_number fs f) (omega arith);
         bodies = λ f h.
             subst (λ (n : ℕ). standing.Stands fs code (fun_at fs f).body n (fun_at fs f).params (offsets 0 (fun_at fs f).params) (widths (fun_at fs f).params) (fun_at fs f).result) (starts_same fs f)
             (stood t p.types fs code H.basis made (λ g k. ap (λ (m : ℕ). get_or t.starts m 0) (number g k) ∙ begun g k) early (H.stands f h)

@@ -9,7 +9,7 @@ use Rattle.code.specs.declared.Op.TheVariants.{Variable, Call, Constant, Apply, 
 use Rattle.judge.specs.Notes.{note_at}
 use Rattle.judge.specs.declared.table.Note.{Note}
 use Rattle.judge.specs.declared.table.Table.{Table}
-use Rattle.lfpl.specs.Syntax.{Ty, width, first, second, Head, var, call, const, apply, guard, mk_pair, case_pair, mkLeft, mkRight, case_sum, mk_nil, mkCons, case_list, mk_leaf, mkNode, caseTree}
+use Rattle.lfpl.specs.Syntax.{Ty, width, first, second, Head, var, call, const, apply, guard, mk_pair, case_pair, mk_left, mk_right, case_sum, mk_nil, mk_cons, case_list, mk_leaf, mk_node, case_tree}
 use Rattle.meaning.specs.Act.{wrap}
 use Rattle.tables.specs.Listed.{head_of}
 use Rattle.tables.specs.declared.listing.Kind.TheVariants as Kind
@@ -34,15 +34,15 @@ is_choice_head (apply o) = false
 is_choice_head guard = true
 is_choice_head (mk_pair A) = false
 is_choice_head case_pair = true
-is_choice_head (mkLeft A) = false
-is_choice_head (mkRight A) = false
+is_choice_head (mk_left A) = false
+is_choice_head (mk_right A) = false
 is_choice_head case_sum = true
 is_choice_head (mk_nil A) = false
-is_choice_head mkCons = false
+is_choice_head mk_cons = false
 is_choice_head case_list = true
 is_choice_head (mk_leaf A) = false
-is_choice_head mkNode = false
-is_choice_head caseTree = true
+is_choice_head mk_node = false
+is_choice_head case_tree = true
 
 -- the operation of a head, where a variable lies at a place, a function's body begins at a number, and the type that the head is about has the widths
 abbrev pub operation_by : Head → ℕ → ℕ → Widths → Op
@@ -53,15 +53,15 @@ operation_by (apply o) place start w = Apply (code_infix o)
 operation_by guard place start w = Guard
 operation_by (mk_pair A) place start w = Pair w.whole
 operation_by case_pair place start w = Split
-operation_by (mkLeft A) place start w = Tag 0 w.left
-operation_by (mkRight A) place start w = Tag 1 w.right
+operation_by (mk_left A) place start w = Tag 0 w.left
+operation_by (mk_right A) place start w = Tag 1 w.right
 operation_by case_sum place start w = CaseSum w.left w.right
 operation_by (mk_nil A) place start w = Empty
-operation_by mkCons place start w = Cons w.left
+operation_by mk_cons place start w = Cons w.left
 operation_by case_list place start w = CaseList w.left
 operation_by (mk_leaf A) place start w = Tag 0 w.left
-operation_by mkNode place start w = Fork w.left
-operation_by caseTree place start w = CaseTree w.left
+operation_by mk_node place start w = Fork w.left
+operation_by case_tree place start w = CaseTree w.left
 
 -- what is listed at the number n
 abbrev pub listed_at : Table → ℕ → L.Node

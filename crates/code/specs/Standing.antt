@@ -6,7 +6,7 @@ use Rattle.std.specs.List.{AllByRecursion}
 use Rattle.lfpl.specs.Judge.{count, parts_naming}
 use Rattle.lfpl.specs.Reading.{roomy}
 use Rattle.lfpl.specs.Syntax as lfpl
-use Rattle.lfpl.specs.Syntax.{Ty, width, first, second, is_heap_free, Head, var, call, const, apply, guard, mk_pair, case_pair, mkLeft, mkRight, case_sum, mk_nil, mkCons, case_list, mk_leaf, mkNode, caseTree, Expr, Exprs, expr, end, ◌then◌, size, sizes, names_any, Fun, Program}
+use Rattle.lfpl.specs.Syntax.{Ty, width, first, second, is_heap_free, Head, var, call, const, apply, guard, mk_pair, case_pair, mk_left, mk_right, case_sum, mk_nil, mk_cons, case_list, mk_leaf, mk_node, case_tree, Expr, Exprs, expr, end, ◌then◌, size, sizes, names_any, Fun, Program}
 use Rattle.lfpl.specs.Typing.{type_at, fun_at, rule, fits}
 use Rattle.meaning.specs.Act.{wrap}
 use Rattle.meaning.specs.Machine.{body_number}
@@ -35,15 +35,15 @@ operation fs Γ ps (apply o) As = Apply (code_infix o)
 operation fs Γ ps guard As = Guard
 operation fs Γ ps (mk_pair A) As = Pair (width A)
 operation fs Γ ps case_pair As = Split
-operation fs Γ ps (mkLeft A) As = Tag 0 (width (first A))
-operation fs Γ ps (mkRight A) As = Tag 1 (width (second A))
+operation fs Γ ps (mk_left A) As = Tag 0 (width (first A))
+operation fs Γ ps (mk_right A) As = Tag 1 (width (second A))
 operation fs Γ ps case_sum As = CaseSum (width (first (type_at As 0))) (width (second (type_at As 0)))
 operation fs Γ ps (mk_nil A) As = Empty
-operation fs Γ ps mkCons As = Cons (width (first (type_at As 2)))
+operation fs Γ ps mk_cons As = Cons (width (first (type_at As 2)))
 operation fs Γ ps case_list As = CaseList (width (first (type_at As 0)))
 operation fs Γ ps (mk_leaf A) As = Tag 0 (width (first A))
-operation fs Γ ps mkNode As = Fork (width (first (type_at As 3)))
-operation fs Γ ps caseTree As = CaseTree (width (first (type_at As 0)))
+operation fs Γ ps mk_node As = Fork (width (first (type_at As 3)))
+operation fs Γ ps case_tree As = CaseTree (width (first (type_at As 0)))
 
 -- a type that a table may have: at most 16 words wide, and a list's element at most 15
 pub record Narrow (A : Ty) : Type 0 where

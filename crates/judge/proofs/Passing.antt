@@ -140,9 +140,9 @@ module _ (l : Listing) (s : Scope) (n : ℕ) (ts : List Ty) (fs : List Fun) (Γ 
       T = subject ts fs Γ x.number As r.about
 
       -- the test f is the rule's
-      module _ (f : Bool) (f-is : f ≡ (asked r.form (subject ts fs Γ x.number As r.about) && same_tys As (wanted fs x.number r.about r.wants (subject ts fs Γ x.number As r.about)))) where
+      module _ (f : Bool) (f_is : f ≡ (asked r.form (subject ts fs Γ x.number As r.about) && same_tys As (wanted fs x.number r.about r.wants (subject ts fs Γ x.number As r.about)))) where
         pub fit_is : f ≡ fits (rule fs Γ (head_of ts x) As) As
-        fit_is = f-is ∙ sym (says As).fit
+        fit_is = f_is ∙ sym (says As).fit
 
         pub early_unfit : (r.early && not f) ≡ true → (early (head_of ts x) ≡ true) × (fits (rule fs Γ (head_of ts x) As) As ≡ false)
         early_unfit h =
@@ -158,7 +158,7 @@ module _ (l : Listing) (s : Scope) (n : ℕ) (ts : List Ty) (fs : List Fun) (Γ 
               go false h = absurd (Rattle.std.proofs.lemmas.Bool.true≢false h)
 
           pub arms_agree : (rule fs Γ (head_of ts x) As).arms ≡ map (slot_types (subject ts fs Γ x.number As r.about)) (arms_from r 0)
-          arms_agree = (says As).arms (λ h. (and_parts _ _ (sym f-is ∙ fit_early h)).0)
+          arms_agree = (says As).arms (λ h. (and_parts _ _ (sym f_is ∙ fit_early h)).0)
 
           pub goes_on : (not (early (head_of ts x)) || fits (rule fs Γ (head_of ts x) As) As) ≡ true
           goes_on = ap₂ (λ (a b : Bool). not a || b) (says As).early (sym fit_is) ∙ go r.early fit_early
@@ -212,7 +212,7 @@ pub passes : (ts : List Ty) (fs : List Fun) (Γ : List Ty) (ps : List ℕ) (over
     → judge fs e n Γ ≡ fine ((rule fs Γ h As).whole (type_at Bs 0))
     → (c o p mp mq : ℕ) → Coded ts c ((rule fs Γ h As).whole (type_at Bs 0)) → o ≡ head_mask h → mp ≡ masks es → mq ≡ masks qs → ((i : ℕ) → h ≡ var i → p ≡ get_or ps i 0)
     → (k : ℕ) → k ≡ j → over ≤ 49152 → Passed ts fs Γ ps over n e j notes (set notes₂ n (record { code = c; end = k; place = p; over = over })) (record { code = c; mask = bit_or o (bit_or mp mq); end = k })
-passes ts fs Γ ps over n j m e h es qs is at-m at_j As Bs bs notes notes₁ notes₂ agree long inside all before arms before₂ fit same apart verdict c o p mp mq code own mps mqs place k ends low =
+passes ts fs Γ ps over n j m e h es qs is at_m at_j As Bs bs notes notes₁ notes₂ agree long inside all before arms before₂ fit same apart verdict c o p mp mq code own mps mqs place k ends low =
     record {
       type = (rule fs Γ h As).whole (type_at Bs 0);
       typed = verdict;
@@ -260,7 +260,7 @@ passes ts fs Γ ps over n j m e h es qs is at-m at_j As Bs bs notes notes₁ not
           kept_all ts fs notes₁ notes₃ (let q = length-set notes₂ n note in omega arith) es (n + 1) Γ ps over As
               (λ i d l u. other i d (omega arith) ∙ before₂ i d (omega arith)) all,
           subst (λ (y : List (List Ty)). LaidArms ts fs notes₃ qs (n + 1 + sizes es) y Γ ps over (type_at Bs 0)) (sym agree)
-              (subst (λ (y : ℕ). LaidArms ts fs notes₃ qs y bs Γ ps over (type_at Bs 0)) at-m
+              (subst (λ (y : ℕ). LaidArms ts fs notes₃ qs y bs Γ ps over (type_at Bs 0)) at_m
               (kept_arms ts fs notes₂ notes₃ (let q = length-set notes₂ n note in omega arith) qs m bs Γ ps over (type_at Bs 0)
               (λ i d l u. other i d (omega arith)) (arms (type_at Bs 0) same))),
         )

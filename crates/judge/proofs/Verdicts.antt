@@ -7,7 +7,7 @@ use Rattle.lfpl.specs.Syntax.{Ty, Head, Expr, Exprs, expr, end, ◌then◌, size
 use Rattle.lfpl.specs.Typing.{rule, fits, early, alike, type_at}
 
 -- an expression that has its parts from k on and its arms from m on
-module _ (fs : List Fun) (Γ : List Ty) (n k m : ℕ) (e : Expr) (h : Head) (ps qs : Exprs) (is : e ≡ expr h ps qs) (at-parts : k ≡ n + 1) (at-arms : m ≡ k + sizes ps) where
+module _ (fs : List Fun) (Γ : List Ty) (n k m : ℕ) (e : Expr) (h : Head) (ps qs : Exprs) (is : e ≡ expr h ps qs) (at_parts : k ≡ n + 1) (at_arms : m ≡ k + sizes ps) where
   first : k ≡ suc n
   first = omega arith
 
@@ -21,7 +21,7 @@ module _ (fs : List Fun) (Γ : List Ty) (n k m : ℕ) (e : Expr) (h : Head) (ps 
     module _ (bs : List (List Ty)) (agree : (rule fs Γ h As).arms ≡ bs) (go : (not (early h) || fits (rule fs Γ h As) As) ≡ true) where
       so_far : judge fs e n Γ ≡ (arms_verdict fs qs bs n m Γ >>= λ Bs. demand (fits (rule fs Γ h As) As && alike (type_at Bs 0) Bs) TypeFault n tt >>= λ (u : Unit {0}).
           demand (not (shares 0 Γ ps qs)) Sharing n ((rule fs Γ h As).whole (type_at Bs 0)))
-      so_far = ap (λ (x : Expr). judge fs x n Γ) is ∙ rw (← first, p, go, agree, ← at-arms) refl
+      so_far = ap (λ (x : Expr). judge fs x n Γ) is ∙ rw (← first, p, go, agree, ← at_arms) refl
 
       pub arms_fault : (w : Refusal) (i : ℕ) → arms_verdict fs qs bs n m Γ ≡ faulty w i → judge fs e n Γ ≡ faulty w i
       arms_fault w i q = so_far ∙ rw q refl

@@ -102,7 +102,7 @@ fn joined(first: Found, rest: Several) -> Several
 
 // Judges the expression with the number `at`: its parts, left to right; then, for a choice by a kind of type, that its first part has it; then its arms, its types,
 // and sharing. Notes are written at it and at all within it.
-#[cycle(judge_judge_arms_judge_parts)]
+#[cycle(judging)]
 fn judge(listing: &Listing, at: usize, scope: Scope, notes: &mut [Note]) -> Result<Found, Fault>
     requires long { length notes.old ≡ 512 }
     requires low { scope.over ≤ 96 * (at + 1) }
@@ -140,7 +140,7 @@ fn judge(listing: &Listing, at: usize, scope: Scope, notes: &mut [Note]) -> Resu
 }
 
 // Judges `count` parts from the number `at` on, each over the words of those before it; their types follow those of `done`.
-#[cycle(judge_judge_arms_judge_parts)]
+#[cycle(judging)]
 fn judge_parts(
     listing: &Listing,
     count: usize,
@@ -172,7 +172,7 @@ fn judge_parts(
 
 // Judges the arms of an expression from the arm `arm` on, which has the number `at`, where the rule is about the type with the code; their types follow those of
 // `done`.
-#[cycle(judge_judge_arms_judge_parts)]
+#[cycle(judging)]
 fn judge_arms(
     listing: &Listing,
     rule: Rule,

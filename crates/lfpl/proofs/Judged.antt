@@ -5,7 +5,7 @@ use mathlib.Core.Path.{subst⁻¹}
 use Rattle.std.proofs.lemmas.Bool.{and_parts, and_from, or_right, not-true}
 use Rattle.codec.specs.declared.fault.Refusal.{Refusal}
 use Rattle.codec.specs.declared.fault.Refusal.TheVariants.{TypeFault, Sharing}
-use Rattle.lfpl.specs.Syntax.{Ty, int, same_ty, Head, var, call, const, apply, guard, mk_pair, case_pair, mkLeft, mkRight, case_sum, mk_nil, mkCons, case_list, mk_leaf, mkNode, caseTree, Expr, Exprs, expr, end, ◌then◌, size, sizes, Fun}
+use Rattle.lfpl.specs.Syntax.{Ty, int, same_ty, Head, var, call, const, apply, guard, mk_pair, case_pair, mk_left, mk_right, case_sum, mk_nil, mk_cons, case_list, mk_leaf, mk_node, case_tree, Expr, Exprs, expr, end, ◌then◌, size, sizes, Fun}
 use Rattle.lfpl.specs.Typing.{rule, fits, opened, early, alike, type_at}
 use Rattle.lfpl.specs.Judge.{◌>>=◌, Verdict, fine, faulty, demand, judge, exprs_verdict, arms_verdict, bodies_verdict, program_verdict, shares}
 use Rattle.lfpl.proofs.SameTypes.{same_eq, same_refl}
@@ -103,15 +103,15 @@ module _ (fs : List Fun) where
   no_arms guard Γ As B t a C = absurd a
   no_arms (mk_pair A) Γ As B t a C = refl
   no_arms case_pair Γ As B t a C = absurd (subst (λ (S : Ty). TypArms fs end (opened S) Γ B) (same_eq _ _ (and_parts _ _ t).0) a)
-  no_arms (mkLeft A) Γ As B t a C = refl
-  no_arms (mkRight A) Γ As B t a C = refl
+  no_arms (mk_left A) Γ As B t a C = refl
+  no_arms (mk_right A) Γ As B t a C = refl
   no_arms case_sum Γ As B t a C = absurd (subst (λ (S : Ty). TypArms fs end (opened S) Γ B) (same_eq _ _ (and_parts _ _ t).0) a)
   no_arms (mk_nil A) Γ As B t a C = refl
-  no_arms mkCons Γ As B t a C = refl
+  no_arms mk_cons Γ As B t a C = refl
   no_arms case_list Γ As B t a C = absurd (subst (λ (S : Ty). TypArms fs end (opened S) Γ B) (same_eq _ _ (and_parts _ _ t).0) a)
   no_arms (mk_leaf A) Γ As B t a C = refl
-  no_arms mkNode Γ As B t a C = refl
-  no_arms caseTree Γ As B t a C = absurd (subst (λ (S : Ty). TypArms fs end (opened S) Γ B) (same_eq _ _ (and_parts _ _ t).0) a)
+  no_arms mk_node Γ As B t a C = refl
+  no_arms case_tree Γ As B t a C = absurd (subst (λ (S : Ty). TypArms fs end (opened S) Γ B) (same_eq _ _ (and_parts _ _ t).0) a)
 
   -- the type that the arms are found to have
   found_arms : (h : Head) (qs : Exprs) (Γ As : List Ty) (B : Ty) → fits (rule fs Γ h As) As ≡ true → TypArms fs qs (rule fs Γ h As).arms Γ B →

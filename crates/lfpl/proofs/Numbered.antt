@@ -5,7 +5,7 @@ use mathlib.Core.Bool.{false≢true}
 use mathlib.Core.Option.{Option, none, some}
 use Rattle.std.proofs.lemmas.List.{get_or_append_left, get_or-append_right}
 use Rattle.std.proofs.lemmas.Bool.{and_from, or_cases, cases_lt, lt-ltb, eqb-true}
-use Rattle.lfpl.specs.Syntax.{Ty, int, diamond, list_of, tree_of, pair_of, sum_of, is_heap_free, same_ty, Head, is_var, call, const, apply, guard, mk_pair, case_pair, mkLeft, mkRight, case_sum, mk_nil, mkCons, case_list, mk_leaf, mkNode, caseTree, Term, Terms, Expr, Exprs, expr, end, ◌then◌, rename, renames, names, names_any, Fun}
+use Rattle.lfpl.specs.Syntax.{Ty, int, diamond, list_of, tree_of, pair_of, sum_of, is_heap_free, same_ty, Head, is_var, call, const, apply, guard, mk_pair, case_pair, mk_left, mk_right, case_sum, mk_nil, mk_cons, case_list, mk_leaf, mk_node, case_tree, Term, Terms, Expr, Exprs, expr, end, ◌then◌, rename, renames, names, names_any, Fun}
 use Rattle.lfpl.specs.Typing.{rule, fits, type_at, fun_at, same_tys}
 use Rattle.lfpl.specs.Judge.{count, parts_naming}
 use Rattle.lfpl.specs.Hofmann.{Name, same_name, plain, Context, Parted, nowhere, here, there, Union, with, extended, Free, Derives, Var, Sig, Contr, Const, InfixOp, If, Pair, Split, Inl, Inr, SumElim, Nil, Cons, ListElim, Leaf, Node, TreeElim, Derive, Zero, One, More, Under, Binding, Derivable}
@@ -267,16 +267,16 @@ module _ (Σ : List Fun) where
         choosing Ξ φ j f case_pair (pair_of A B) C (λ v. refl) (fit (pair_of A B) (pair_of A B ∷ [])) (whole d Ξ k φ (left Ξ φ j f))
         (next_arm Ξ φ (arm u Ξ k φ (right Ξ φ j f)) (no_arms Ξ φ))
     whole (Inl e A B d) Ξ k φ f =
-        building Ξ φ (mkLeft (sum_of A B)) _ (A ∷ []) int (λ v. refl) (fit (sum_of A B) (A ∷ [])) tt (one_part Ξ φ (whole d Ξ k φ f))
+        building Ξ φ (mk_left (sum_of A B)) _ (A ∷ []) int (λ v. refl) (fit (sum_of A B) (A ∷ [])) tt (one_part Ξ φ (whole d Ξ k φ f))
     whole (Inr e A B d) Ξ k φ f =
-        building Ξ φ (mkRight (sum_of A B)) _ (B ∷ []) int (λ v. refl) (fit (sum_of A B) (B ∷ [])) tt (one_part Ξ φ (whole d Ξ k φ f))
+        building Ξ φ (mk_right (sum_of A B)) _ (B ∷ []) int (λ v. refl) (fit (sum_of A B) (B ∷ [])) tt (one_part Ξ φ (whole d Ξ k φ f))
     whole (SumElim e e₁ e₂ A B C j d u₁ u₂) Ξ k φ f =
         let g = right Ξ φ j f in
         choosing Ξ φ j f case_sum (sum_of A B) C (λ v. refl) (fit (sum_of A B) (sum_of A B ∷ [])) (whole d Ξ k φ (left Ξ φ j f))
         (next_arm Ξ φ (arm u₁ Ξ k φ g) (next_arm Ξ φ (arm u₂ Ξ k φ g) (no_arms Ξ φ)))
     whole (Nil A) Ξ k φ f = building Ξ φ (mk_nil (list_of A)) end [] int (λ v. refl) (fit (list_of A) []) tt (no_parts Ξ φ)
     whole (Cons e₁ e₂ e₃ A ds) Ξ k φ f =
-        building Ξ φ mkCons _ (diamond ∷ A ∷ list_of A ∷ []) int (λ v. refl) (fit (list_of A) (diamond ∷ A ∷ list_of A ∷ [])) tt (parts ds Ξ k φ f)
+        building Ξ φ mk_cons _ (diamond ∷ A ∷ list_of A ∷ []) int (λ v. refl) (fit (list_of A) (diamond ∷ A ∷ list_of A ∷ [])) tt (parts ds Ξ k φ f)
     whole (ListElim e e₁ e₂ A C j d d₁ u₂) Ξ k φ f =
         let g = right Ξ φ j f in
         choosing Ξ φ j f case_list (list_of A) C (λ v. refl) (fit (list_of A) (list_of A ∷ [])) (whole d Ξ k φ (left Ξ φ j f))
@@ -284,11 +284,11 @@ module _ (Σ : List Fun) where
     whole (Leaf e A d) Ξ k φ f =
         building Ξ φ (mk_leaf (tree_of A)) _ (A ∷ []) int (λ v. refl) (fit (tree_of A) (A ∷ [])) tt (one_part Ξ φ (whole d Ξ k φ f))
     whole (Node e₁ e₂ e₃ e₄ e₅ A ds) Ξ k φ f =
-        building Ξ φ mkNode _ (diamond ∷ diamond ∷ A ∷ tree_of A ∷ tree_of A ∷ []) int (λ v. refl)
+        building Ξ φ mk_node _ (diamond ∷ diamond ∷ A ∷ tree_of A ∷ tree_of A ∷ []) int (λ v. refl)
         (fit (tree_of A) (diamond ∷ diamond ∷ A ∷ tree_of A ∷ tree_of A ∷ [])) tt (parts ds Ξ k φ f)
     whole (TreeElim e e₁ e₂ A C j d u₁ u₂) Ξ k φ f =
         let g = right Ξ φ j f in
-        choosing Ξ φ j f caseTree (tree_of A) C (λ v. refl) (fit (tree_of A) (tree_of A ∷ [])) (whole d Ξ k φ (left Ξ φ j f))
+        choosing Ξ φ j f case_tree (tree_of A) C (λ v. refl) (fit (tree_of A) (tree_of A ∷ [])) (whole d Ξ k φ (left Ξ φ j f))
         (next_arm Ξ φ (arm u₁ Ξ k φ g) (next_arm Ξ φ (arm u₂ Ξ k φ g) (no_arms Ξ φ)))
 
     parts : {n : ℕ} {Γ : Context} {ts : Terms Name} {As : List Ty} → Derive Σ n Γ ts As → (Ξ : List Ty) → length Ξ ≡ n → (φ : Name → ℕ) → Numbers Ξ φ Γ

@@ -1,6 +1,6 @@
 -- Renaming twice is renaming once, and renaming each variable by itself changes nothing.
 use Rattle.std.proofs.Common.{◌≡◌, refl, ap, ap₂}
-use Rattle.lfpl.specs.Syntax.{HeadOf, var, call, const, apply, guard, mk_pair, case_pair, mkLeft, mkRight, case_sum, mk_nil, mkCons, case_list, mk_leaf, mkNode, caseTree, Term, Terms, expr, end, ◌then◌, rename_head, rename, renames}
+use Rattle.lfpl.specs.Syntax.{HeadOf, var, call, const, apply, guard, mk_pair, case_pair, mk_left, mk_right, case_sum, mk_nil, mk_cons, case_list, mk_leaf, mk_node, case_tree, Term, Terms, expr, end, ◌then◌, rename_head, rename, renames}
 
 -- a term by its head, parts and arms
 pub expr_by : {X : Type 0} {h h' : HeadOf X} {ps ps' qs qs' : Terms X} → h ≡ h' → ps ≡ ps' → qs ≡ qs' → expr h ps qs ≡ expr h' ps' qs'
@@ -18,15 +18,15 @@ module _ {X Y Z : Type 0} (f : Y → Z) (g : X → Y) (k : X → Z) (via : (x : 
   head_twice guard = refl
   head_twice (mk_pair A) = refl
   head_twice case_pair = refl
-  head_twice (mkLeft A) = refl
-  head_twice (mkRight A) = refl
+  head_twice (mk_left A) = refl
+  head_twice (mk_right A) = refl
   head_twice case_sum = refl
   head_twice (mk_nil A) = refl
-  head_twice mkCons = refl
+  head_twice mk_cons = refl
   head_twice case_list = refl
   head_twice (mk_leaf A) = refl
-  head_twice mkNode = refl
-  head_twice caseTree = refl
+  head_twice mk_node = refl
+  head_twice case_tree = refl
 
   mutual
     pub rename_twice : (e : Term X) → rename f (rename g e) ≡ rename k e
@@ -44,15 +44,15 @@ head_same (apply o) = refl
 head_same guard = refl
 head_same (mk_pair A) = refl
 head_same case_pair = refl
-head_same (mkLeft A) = refl
-head_same (mkRight A) = refl
+head_same (mk_left A) = refl
+head_same (mk_right A) = refl
 head_same case_sum = refl
 head_same (mk_nil A) = refl
-head_same mkCons = refl
+head_same mk_cons = refl
 head_same case_list = refl
 head_same (mk_leaf A) = refl
-head_same mkNode = refl
-head_same caseTree = refl
+head_same mk_node = refl
+head_same case_tree = refl
 
 mutual
   pub rename_same : {X : Type 0} (e : Term X) → rename (λ x. x) e ≡ e

@@ -2,7 +2,7 @@
 use Rattle.std.proofs.Common.{◌≡◌, ℕ, ◌+◌, ◌<◌, Bool, true, ◌&&◌, List, [], ◌∷◌, length, ℤ, sym, refl, subst, arith}
 use mathlib.Core.Option.{some}
 use Rattle.std.proofs.lemmas.Bool.{and_parts, ltb-true, eq-eqb}
-use Rattle.lfpl.specs.Syntax.{Ty, int, diamond, list_of, tree_of, pair_of, sum_of, first, second, same_ty, HeadOf, Infix, Head, is_var, var, call, const, apply, guard, mk_pair, case_pair, mkLeft, mkRight, case_sum, mk_nil, mkCons, case_list, mk_leaf, mkNode, caseTree, Term, Terms, expr, end, ◌then◌, rename_head, Fun}
+use Rattle.lfpl.specs.Syntax.{Ty, int, diamond, list_of, tree_of, pair_of, sum_of, first, second, same_ty, HeadOf, Infix, Head, is_var, var, call, const, apply, guard, mk_pair, case_pair, mk_left, mk_right, case_sum, mk_nil, mk_cons, case_list, mk_leaf, mk_node, case_tree, Term, Terms, expr, end, ◌then◌, rename_head, Fun}
 use Rattle.lfpl.specs.Typing.{rule, fits, type_at, fun_at, opened, same_tys}
 use Rattle.lfpl.specs.Hofmann.{Name, Context, Union, Derives, Var, Sig, Const, InfixOp, If, Pair, Split, Inl, Inr, SumElim, Nil, Cons, ListElim, Leaf, Node, TreeElim, Derive, Zero, One, More, Under, Binding}
 use Rattle.lfpl.proofs.SameTypes.{same_eq, sames_eq}
@@ -37,20 +37,20 @@ module _ {Σ : List Fun} {n : ℕ} {Γ : Context} where
   by_pair : {es : Terms Name} (A B : Ty) → Derive Σ n Γ es (A ∷ B ∷ []) → Derives Σ n Γ (expr (mk_pair (pair_of A B)) es end) (pair_of A B)
   by_pair A B (More e e₂ es A₁ A₂ As j d (One e' A' d')) = Pair e e' A B j d d'
 
-  by_left : {es : Terms Name} (A B : Ty) → Derive Σ n Γ es (A ∷ []) → Derives Σ n Γ (expr (mkLeft (sum_of A B)) es end) (sum_of A B)
+  by_left : {es : Terms Name} (A B : Ty) → Derive Σ n Γ es (A ∷ []) → Derives Σ n Γ (expr (mk_left (sum_of A B)) es end) (sum_of A B)
   by_left A B (One e A' d) = Inl e A B d
 
-  by_right : {es : Terms Name} (A B : Ty) → Derive Σ n Γ es (B ∷ []) → Derives Σ n Γ (expr (mkRight (sum_of A B)) es end) (sum_of A B)
+  by_right : {es : Terms Name} (A B : Ty) → Derive Σ n Γ es (B ∷ []) → Derives Σ n Γ (expr (mk_right (sum_of A B)) es end) (sum_of A B)
   by_right A B (One e A' d) = Inr e A B d
 
   by_leaf : {es : Terms Name} (A : Ty) → Derive Σ n Γ es (A ∷ []) → Derives Σ n Γ (expr (mk_leaf (tree_of A)) es end) (tree_of A)
   by_leaf A (One e A' d) = Leaf e A d
 
-  by_cons : {es : Terms Name} (A : Ty) → Derive Σ n Γ es (diamond ∷ A ∷ list_of A ∷ []) → Derives Σ n Γ (expr mkCons es end) (list_of A)
+  by_cons : {es : Terms Name} (A : Ty) → Derive Σ n Γ es (diamond ∷ A ∷ list_of A ∷ []) → Derives Σ n Γ (expr mk_cons es end) (list_of A)
   by_cons A (More e₁ f₁ fs₁ A₁ B₁ Bs₁ j₁ d₁ (More e₂ f₂ fs₂ A₂ B₂ Bs₂ j₂ d₂ (One e₃ A₃ d₃))) =
       Cons e₁ e₂ e₃ A (More e₁ e₂ (e₃ then end) _ _ _ j₁ d₁ (More e₂ e₃ end _ _ _ j₂ d₂ (One e₃ _ d₃)))
 
-  by_node : {es : Terms Name} (A : Ty) → Derive Σ n Γ es (diamond ∷ diamond ∷ A ∷ tree_of A ∷ tree_of A ∷ []) → Derives Σ n Γ (expr mkNode es end) (tree_of A)
+  by_node : {es : Terms Name} (A : Ty) → Derive Σ n Γ es (diamond ∷ diamond ∷ A ∷ tree_of A ∷ tree_of A ∷ []) → Derives Σ n Γ (expr mk_node es end) (tree_of A)
   by_node A (More e₁ f₁ fs₁ A₁ B₁ Bs₁ j₁ d₁ (More e₂ f₂ fs₂ A₂ B₂ Bs₂ j₂ d₂ (More e₃ f₃ fs₃ A₃ B₃ Bs₃ j₃ d₃ (More e₄ f₄ fs₄ A₄ B₄ Bs₄ j₄ d₄ (One e₅ A₅ d₅))))) =
       Node e₁ e₂ e₃ e₄ e₅ A (More e₁ e₂ (e₃ then e₄ then e₅ then end) _ _ _ j₁ d₁ (More e₂ e₃ (e₄ then e₅ then end) _ _ _ j₂ d₂
       (More e₃ e₄ (e₅ then end) _ _ _ j₃ d₃ (More e₄ e₅ end _ _ _ j₄ d₄ (One e₅ _ d₅)))))
@@ -67,7 +67,7 @@ module _ {Σ : List Fun} {n : ℕ} {Γ : Context} where
   by_list : {es qs : Terms Name} (A C : Ty) → Choice Σ n Γ es (list_of A) qs (opened (list_of A)) C → Derives Σ n Γ (expr case_list es qs) C
   by_list A C (Chosen e T qs l C' j d (Limb e₁ r₁ b₁ l₁ C₁ u₁ (Limb e₂ r₂ b₂ l₂ C₂ u₂ (Stump C₃)))) = ListElim e e₁ e₂ A C j d (unbind u₁) u₂
 
-  by_tree : {es qs : Terms Name} (A C : Ty) → Choice Σ n Γ es (tree_of A) qs (opened (tree_of A)) C → Derives Σ n Γ (expr caseTree es qs) C
+  by_tree : {es qs : Terms Name} (A C : Ty) → Choice Σ n Γ es (tree_of A) qs (opened (tree_of A)) C → Derives Σ n Γ (expr case_tree es qs) C
   by_tree A C (Chosen e T qs l C' j d (Limb e₁ r₁ b₁ l₁ C₁ u₁ (Limb e₂ r₂ b₂ l₂ C₂ u₂ (Stump C₃)))) = TreeElim e e₁ e₂ A C j d u₁ u₂
 
 -- What is known of an expression's parts ps, of the types As, and arms qs: they are derived as parts without arms, and as one part with arms.
@@ -105,19 +105,19 @@ module _ (Σ : List Fun) (n : ℕ) (Γ : Context) (Ξ : List Ty) (ps qs : Terms 
   by_rule θ (mk_pair A) f has p =
       built (mk_pair A) _ _ _ f p (λ t d. of (λ S. Derives Σ n Γ (expr (mk_pair S) ps end) S) A (pair_of (first A) (second A)) t (by_pair (first A) (second A) d))
   by_rule θ case_pair f has p = let T = type_at As 0 in chose case_pair _ T (pair_of (first T) (second T)) f p (same_eq T _) (by_split (first T) (second T) C)
-  by_rule θ (mkLeft A) f has p =
-      built (mkLeft A) _ _ _ f p (λ t d. of (λ S. Derives Σ n Γ (expr (mkLeft S) ps end) S) A (sum_of (first A) (second A)) t (by_left (first A) (second A) d))
-  by_rule θ (mkRight A) f has p =
-      built (mkRight A) _ _ _ f p (λ t d. of (λ S. Derives Σ n Γ (expr (mkRight S) ps end) S) A (sum_of (first A) (second A)) t (by_right (first A) (second A) d))
+  by_rule θ (mk_left A) f has p =
+      built (mk_left A) _ _ _ f p (λ t d. of (λ S. Derives Σ n Γ (expr (mk_left S) ps end) S) A (sum_of (first A) (second A)) t (by_left (first A) (second A) d))
+  by_rule θ (mk_right A) f has p =
+      built (mk_right A) _ _ _ f p (λ t d. of (λ S. Derives Σ n Γ (expr (mk_right S) ps end) S) A (sum_of (first A) (second A)) t (by_right (first A) (second A) d))
   by_rule θ case_sum f has p = let T = type_at As 0 in chose case_sum _ T (sum_of (first T) (second T)) f p (same_eq T _) (by_sum (first T) (second T) C)
   by_rule θ (mk_nil A) f has p = built (mk_nil A) _ _ _ f p (λ t d. of (λ S. Derives Σ n Γ (expr (mk_nil S) ps end) S) A (list_of (first A)) t (by_nil (first A) d))
-  by_rule θ mkCons f has p =
+  by_rule θ mk_cons f has p =
       let T = type_at As 2 in
-      built mkCons _ _ _ f p (λ t. of (λ S. Derive Σ n Γ ps (diamond ∷ first T ∷ S ∷ []) → Derives Σ n Γ (expr mkCons ps end) S) T (list_of (first T)) t (by_cons (first T)))
+      built mk_cons _ _ _ f p (λ t. of (λ S. Derive Σ n Γ ps (diamond ∷ first T ∷ S ∷ []) → Derives Σ n Γ (expr mk_cons ps end) S) T (list_of (first T)) t (by_cons (first T)))
   by_rule θ case_list f has p = let T = type_at As 0 in chose case_list _ T (list_of (first T)) f p (same_eq T _) (by_list (first T) C)
   by_rule θ (mk_leaf A) f has p = built (mk_leaf A) _ _ _ f p (λ t d. of (λ S. Derives Σ n Γ (expr (mk_leaf S) ps end) S) A (tree_of (first A)) t (by_leaf (first A) d))
-  by_rule θ mkNode f has p =
+  by_rule θ mk_node f has p =
       let T = type_at As 3 in
-      built mkNode _ _ _ f p
-      (λ t. of (λ S. Derive Σ n Γ ps (diamond ∷ diamond ∷ first T ∷ S ∷ S ∷ []) → Derives Σ n Γ (expr mkNode ps end) S) T (tree_of (first T)) t (by_node (first T)))
-  by_rule θ caseTree f has p = let T = type_at As 0 in chose caseTree _ T (tree_of (first T)) f p (same_eq T _) (by_tree (first T) C)
+      built mk_node _ _ _ f p
+      (λ t. of (λ S. Derive Σ n Γ ps (diamond ∷ diamond ∷ first T ∷ S ∷ S ∷ []) → Derives Σ n Γ (expr mk_node ps end) S) T (tree_of (first T)) t (by_node (first T)))
+  by_rule θ case_tree f has p = let T = type_at As 0 in chose case_tree _ T (tree_of (first T)) f p (same_eq T _) (by_tree (first T) C)

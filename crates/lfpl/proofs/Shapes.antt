@@ -2,7 +2,7 @@
 use Rattle.std.proofs.Common.{◌≡◌, ℕ, ◌<◌, true, List, map, length, get_or, sym, refl, ap, ◌∙◌}
 use Rattle.std.proofs.lemmas.List.{get_or-map}
 use Rattle.std.proofs.lemmas.Bool.{and_parts, ltb-true}
-use Rattle.lfpl.specs.Syntax.{Ty, Head, var, call, const, apply, guard, mk_pair, case_pair, mkLeft, mkRight, case_sum, mk_nil, mkCons, case_list, mk_leaf, mkNode, caseTree, Fun}
+use Rattle.lfpl.specs.Syntax.{Ty, Head, var, call, const, apply, guard, mk_pair, case_pair, mk_left, mk_right, case_sum, mk_nil, mk_cons, case_list, mk_leaf, mk_node, case_tree, Fun}
 use Rattle.lfpl.specs.Typing.{rule, opened, fun_at}
 use Rattle.lfpl.specs.Reading.{shape}
 use Rattle.lfpl.specs.Laws.{ShapesAreTheRules}
@@ -23,15 +23,15 @@ asked fs Γ (apply o) As t = refl
 asked fs Γ guard As t = refl
 asked fs Γ (mk_pair A) As t = refl
 asked fs Γ case_pair As t = refl
-asked fs Γ (mkLeft A) As t = refl
-asked fs Γ (mkRight A) As t = refl
+asked fs Γ (mk_left A) As t = refl
+asked fs Γ (mk_right A) As t = refl
 asked fs Γ case_sum As t = refl
 asked fs Γ (mk_nil A) As t = refl
-asked fs Γ mkCons As t = refl
+asked fs Γ mk_cons As t = refl
 asked fs Γ case_list As t = refl
 asked fs Γ (mk_leaf A) As t = refl
-asked fs Γ mkNode As t = refl
-asked fs Γ caseTree As t = refl
+asked fs Γ mk_node As t = refl
+asked fs Γ case_tree As t = refl
 
 -- a choice by a value of a type that is of the right kind
 opened_at : (A B : Ty) (l : List ℕ) → A ≡ B → map length (opened B) ≡ l → l ≡ map length (opened A)
@@ -46,15 +46,15 @@ bound fs Γ (apply o) As t = refl
 bound fs Γ guard As t = refl
 bound fs Γ (mk_pair A) As t = refl
 bound fs Γ case_pair As t = opened_at _ _ _ (same_eq _ _ t) refl
-bound fs Γ (mkLeft A) As t = refl
-bound fs Γ (mkRight A) As t = refl
+bound fs Γ (mk_left A) As t = refl
+bound fs Γ (mk_right A) As t = refl
 bound fs Γ case_sum As t = opened_at _ _ _ (same_eq _ _ t) refl
 bound fs Γ (mk_nil A) As t = refl
-bound fs Γ mkCons As t = refl
+bound fs Γ mk_cons As t = refl
 bound fs Γ case_list As t = opened_at _ _ _ (same_eq _ _ t) refl
 bound fs Γ (mk_leaf A) As t = refl
-bound fs Γ mkNode As t = refl
-bound fs Γ caseTree As t = opened_at _ _ _ (same_eq _ _ t) refl
+bound fs Γ mk_node As t = refl
+bound fs Γ case_tree As t = opened_at _ _ _ (same_eq _ _ t) refl
 
 pub the_shapes_are_the_rules : ShapesAreTheRules
 the_shapes_are_the_rules fs Γ h As p =

@@ -1,7 +1,7 @@
 -- Hofmann's typing rules for LFPL as he states them: contexts are split strictly, and the rule Contr lets variables of heap-free type be shared.
 use Rattle.std.specs.Prelude.{◌≡◌, ℕ, suc, ◌+◌, ◌<◌, ◌≤◌, Bool, true, cond, ◌&&◌, List, [], ◌∷◌, length, ℤ, ◌==◌, ◌≢◌}
 use Rattle.std.proofs.Math.Option.{Option, none, some}
-use Rattle.lfpl.specs.Syntax.{Ty, int, diamond, list_of, tree_of, pair_of, sum_of, is_heap_free, Infix, var, call, const, apply, guard, mk_pair, case_pair, mkLeft, mkRight, case_sum, mk_nil, mkCons, case_list, mk_leaf, mkNode, caseTree, Term, Terms, expr, end, ◌then◌, Expr, rename, Fun, Program}
+use Rattle.lfpl.specs.Syntax.{Ty, int, diamond, list_of, tree_of, pair_of, sum_of, is_heap_free, Infix, var, call, const, apply, guard, mk_pair, case_pair, mk_left, mk_right, case_sum, mk_nil, mk_cons, case_list, mk_leaf, mk_node, case_tree, Term, Terms, expr, end, ◌then◌, Expr, rename, Fun, Program}
 use Rattle.lfpl.specs.Typing.{fun_at}
 
 -- A name: x, x', x'', .. where x is a number. The names without a prime are the variables that a table numbers; primed ones are copies, used by Contr only.
@@ -72,21 +72,21 @@ mutual
         → Derives Σ n Θ (expr (mk_pair (pair_of A B)) (e₁ then e₂ then end) end) (pair_of A B)
     Split : {n : ℕ} {Θ Γ Δ : Context} (e e₁ : Term Name) (A B C : Ty) → Union Θ Γ Δ → Derives Σ n Γ e (pair_of A B) → Under Σ n Δ (A ∷ B ∷ []) e₁ C
         → Derives Σ n Θ (expr case_pair (e then end) (e₁ then end)) C
-    Inl : {n : ℕ} {Γ : Context} (e : Term Name) (A B : Ty) → Derives Σ n Γ e A → Derives Σ n Γ (expr (mkLeft (sum_of A B)) (e then end) end) (sum_of A B)
-    Inr : {n : ℕ} {Γ : Context} (e : Term Name) (A B : Ty) → Derives Σ n Γ e B → Derives Σ n Γ (expr (mkRight (sum_of A B)) (e then end) end) (sum_of A B)
+    Inl : {n : ℕ} {Γ : Context} (e : Term Name) (A B : Ty) → Derives Σ n Γ e A → Derives Σ n Γ (expr (mk_left (sum_of A B)) (e then end) end) (sum_of A B)
+    Inr : {n : ℕ} {Γ : Context} (e : Term Name) (A B : Ty) → Derives Σ n Γ e B → Derives Σ n Γ (expr (mk_right (sum_of A B)) (e then end) end) (sum_of A B)
     SumElim : {n : ℕ} {Θ Γ Δ : Context} (e e₁ e₂ : Term Name) (A B C : Ty) → Union Θ Γ Δ → Derives Σ n Γ e (sum_of A B) → Under Σ n Δ (A ∷ []) e₁ C
         → Under Σ n Δ (B ∷ []) e₂ C → Derives Σ n Θ (expr case_sum (e then end) (e₁ then e₂ then end)) C
     Nil : {n : ℕ} {Γ : Context} (A : Ty) → Derives Σ n Γ (expr (mk_nil (list_of A)) end end) (list_of A)
     Cons : {n : ℕ} {Γ : Context} (e₁ e₂ e₃ : Term Name) (A : Ty) → Derive Σ n Γ (e₁ then e₂ then e₃ then end) (diamond ∷ A ∷ list_of A ∷ [])
-        → Derives Σ n Γ (expr mkCons (e₁ then e₂ then e₃ then end) end) (list_of A)
+        → Derives Σ n Γ (expr mk_cons (e₁ then e₂ then e₃ then end) end) (list_of A)
     ListElim : {n : ℕ} {Θ Γ Δ : Context} (e e₁ e₂ : Term Name) (A C : Ty) → Union Θ Γ Δ → Derives Σ n Γ e (list_of A) → Derives Σ n Δ e₁ C
         → Under Σ n Δ (diamond ∷ A ∷ list_of A ∷ []) e₂ C → Derives Σ n Θ (expr case_list (e then end) (e₁ then e₂ then end)) C
     Leaf : {n : ℕ} {Γ : Context} (e : Term Name) (A : Ty) → Derives Σ n Γ e A → Derives Σ n Γ (expr (mk_leaf (tree_of A)) (e then end) end) (tree_of A)
     Node : {n : ℕ} {Γ : Context} (e₁ e₂ e₃ e₄ e₅ : Term Name) (A : Ty)
         → Derive Σ n Γ (e₁ then e₂ then e₃ then e₄ then e₅ then end) (diamond ∷ diamond ∷ A ∷ tree_of A ∷ tree_of A ∷ [])
-        → Derives Σ n Γ (expr mkNode (e₁ then e₂ then e₃ then e₄ then e₅ then end) end) (tree_of A)
+        → Derives Σ n Γ (expr mk_node (e₁ then e₂ then e₃ then e₄ then e₅ then end) end) (tree_of A)
     TreeElim : {n : ℕ} {Θ Γ Δ : Context} (e e₁ e₂ : Term Name) (A C : Ty) → Union Θ Γ Δ → Derives Σ n Γ e (tree_of A) → Under Σ n Δ (A ∷ []) e₁ C
-        → Under Σ n Δ (diamond ∷ diamond ∷ A ∷ tree_of A ∷ tree_of A ∷ []) e₂ C → Derives Σ n Θ (expr caseTree (e then end) (e₁ then e₂ then end)) C
+        → Under Σ n Δ (diamond ∷ diamond ∷ A ∷ tree_of A ∷ tree_of A ∷ []) e₂ C → Derives Σ n Θ (expr case_tree (e then end) (e₁ then e₂ then end)) C
 
   -- Γ₁, .., Γₘ where Γᵢ ⊢ eᵢ : Aᵢ for each i; any context, where m is 0
   pub data Derive (Σ : List Fun) : ℕ → Context → Terms Name → List Ty → Type 0 where

@@ -4,7 +4,7 @@ use Rattle.codec.specs.Integer.{unzigzag}
 use Rattle.codec.specs.Reading.{Scan, done, refused, then as followed, number_at, within_at, many_at}
 use Rattle.codec.specs.declared.fault.Refusal.{Refusal}
 use Rattle.codec.specs.declared.fault.Refusal.TheVariants.{EntryRepeated, TooWide, TooManyExpressions, TooManyVariables, BytesOver}
-use Rattle.lfpl.specs.Syntax.{Ty, int, diamond, list_of, tree_of, pair_of, sum_of, width, same_ty, Infix, plus, minus, times, equal, at_most, Head, var, call, const, apply, guard, mk_pair, case_pair, mkLeft, mkRight, case_sum, mk_nil, mkCons, case_list, mk_leaf, mkNode, caseTree, Expr, Exprs, expr, end, ◌then◌, size, sizes, Fun, Program}
+use Rattle.lfpl.specs.Syntax.{Ty, int, diamond, list_of, tree_of, pair_of, sum_of, width, same_ty, Infix, plus, minus, times, equal, at_most, Head, var, call, const, apply, guard, mk_pair, case_pair, mk_left, mk_right, case_sum, mk_nil, mk_cons, case_list, mk_leaf, mk_node, case_tree, Expr, Exprs, expr, end, ◌then◌, size, sizes, Fun, Program}
 use Rattle.lfpl.specs.Typing.{type_at}
 
 -- A reading of bytes from a place on: what is read and the place after it, or a refusal with its place.
@@ -135,15 +135,15 @@ shape arities (apply o) = has 2 []
 shape arities guard = has 1 (0 ∷ 0 ∷ [])
 shape arities (mk_pair A) = has 2 []
 shape arities case_pair = has 1 (2 ∷ [])
-shape arities (mkLeft A) = has 1 []
-shape arities (mkRight A) = has 1 []
+shape arities (mk_left A) = has 1 []
+shape arities (mk_right A) = has 1 []
 shape arities case_sum = has 1 (1 ∷ 1 ∷ [])
 shape arities (mk_nil A) = has 0 []
-shape arities mkCons = has 3 []
+shape arities mk_cons = has 3 []
 shape arities case_list = has 1 (0 ∷ 3 ∷ [])
 shape arities (mk_leaf A) = has 1 []
-shape arities mkNode = has 5 []
-shape arities caseTree = has 1 (1 ∷ 5 ∷ [])
+shape arities mk_node = has 5 []
+shape arities case_tree = has 1 (1 ∷ 5 ∷ [])
 
 abbrev pub operations : List Infix
 operations = plus ∷ minus ∷ times ∷ equal ∷ at_most ∷ []
@@ -174,8 +174,8 @@ module _ (ns : Names) where
       (do
         o ← below 5
         pure (apply (slice_index_or operations o plus))) ∷
-      pure guard ∷ typed mk_pair ∷ pure case_pair ∷ typed mkLeft ∷ typed mkRight ∷ pure case_sum ∷
-      typed mk_nil ∷ pure mkCons ∷ pure case_list ∷ typed mk_leaf ∷ pure mkNode ∷ pure caseTree ∷ []
+      pure guard ∷ typed mk_pair ∷ pure case_pair ∷ typed mk_left ∷ typed mk_right ∷ pure case_sum ∷
+      typed mk_nil ∷ pure mk_cons ∷ pure case_list ∷ typed mk_leaf ∷ pure mk_node ∷ pure case_tree ∷ []
 
   -- an expression begins where `left` more are allowed: its scope is tested, then that it is allowed, and then its kind and numbers are read
   unfoldable pub head_at : ℕ → ℕ → Reader Head

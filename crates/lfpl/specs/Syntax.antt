@@ -63,12 +63,12 @@ pub data HeadOf (X : Type 0) : Type 0 where
   guard : HeadOf X
   mk_pair : Ty → HeadOf X
   case_pair : HeadOf X
-  mkLeft mkRight : Ty → HeadOf X
+  mk_left mk_right : Ty → HeadOf X
   case_sum : HeadOf X
   mk_nil : Ty → HeadOf X
-  mkCons case_list : HeadOf X
+  mk_cons case_list : HeadOf X
   mk_leaf : Ty → HeadOf X
-  mkNode caseTree : HeadOf X
+  mk_node case_tree : HeadOf X
 
 -- An expression is a head, its parts, which are all worked out, and its arms, of which one is chosen.
 infixr 60 ◌then◌
@@ -99,15 +99,15 @@ rename_head f (apply o) = apply o
 rename_head f guard = guard
 rename_head f (mk_pair A) = mk_pair A
 rename_head f case_pair = case_pair
-rename_head f (mkLeft A) = mkLeft A
-rename_head f (mkRight A) = mkRight A
+rename_head f (mk_left A) = mk_left A
+rename_head f (mk_right A) = mk_right A
 rename_head f case_sum = case_sum
 rename_head f (mk_nil A) = mk_nil A
-rename_head f mkCons = mkCons
+rename_head f mk_cons = mk_cons
 rename_head f case_list = case_list
 rename_head f (mk_leaf A) = mk_leaf A
-rename_head f mkNode = mkNode
-rename_head f caseTree = caseTree
+rename_head f mk_node = mk_node
+rename_head f case_tree = case_tree
 
 abbrev mutual
   pub rename : {X Y : Type 0} → (X → Y) → Term X → Term Y
@@ -134,15 +134,15 @@ is_var i (apply o) = false
 is_var i guard = false
 is_var i (mk_pair A) = false
 is_var i case_pair = false
-is_var i (mkLeft A) = false
-is_var i (mkRight A) = false
+is_var i (mk_left A) = false
+is_var i (mk_right A) = false
 is_var i case_sum = false
 is_var i (mk_nil A) = false
-is_var i mkCons = false
+is_var i mk_cons = false
 is_var i case_list = false
 is_var i (mk_leaf A) = false
-is_var i mkNode = false
-is_var i caseTree = false
+is_var i mk_node = false
+is_var i case_tree = false
 
 -- whether the variable i occurs in an expression
 abbrev mutual

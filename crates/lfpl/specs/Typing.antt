@@ -1,6 +1,6 @@
 -- One rule for each kind of expression: what its parts must be, what its arms bind, and what the whole is.
 use Rattle.std.specs.Prelude.{ℕ, Bool, true, false, ◌&&◌, List, [], ◌∷◌, length, nat_lt, slice_index_or}
-use Rattle.lfpl.specs.Syntax.{Ty, int, diamond, list_of, tree_of, pair_of, sum_of, first, second, same_ty, Head, var, call, const, apply, guard, mk_pair, case_pair, mkLeft, mkRight, case_sum, mk_nil, mkCons, case_list, mk_leaf, mkNode, caseTree, expr, end, Fun}
+use Rattle.lfpl.specs.Syntax.{Ty, int, diamond, list_of, tree_of, pair_of, sum_of, first, second, same_ty, Head, var, call, const, apply, guard, mk_pair, case_pair, mk_left, mk_right, case_sum, mk_nil, mk_cons, case_list, mk_leaf, mk_node, case_tree, expr, end, Fun}
 
 abbrev pub same_tys : List Ty → List Ty → Bool
 same_tys [] [] = true
@@ -61,15 +61,15 @@ rule fs Γ (apply o) As = builds true (int ∷ int ∷ []) int
 rule fs Γ guard As = chooses true int
 rule fs Γ (mk_pair A) As = builds (is_pair A) (first A ∷ second A ∷ []) A
 rule fs Γ case_pair As = chooses (is_pair (type_at As 0)) (type_at As 0)
-rule fs Γ (mkLeft A) As = builds (is_sum A) (first A ∷ []) A
-rule fs Γ (mkRight A) As = builds (is_sum A) (second A ∷ []) A
+rule fs Γ (mk_left A) As = builds (is_sum A) (first A ∷ []) A
+rule fs Γ (mk_right A) As = builds (is_sum A) (second A ∷ []) A
 rule fs Γ case_sum As = chooses (is_sum (type_at As 0)) (type_at As 0)
 rule fs Γ (mk_nil A) As = builds (is_list A) [] A
-rule fs Γ mkCons As = let T = type_at As 2 in builds (is_list T) (diamond ∷ first T ∷ T ∷ []) T
+rule fs Γ mk_cons As = let T = type_at As 2 in builds (is_list T) (diamond ∷ first T ∷ T ∷ []) T
 rule fs Γ case_list As = chooses (is_list (type_at As 0)) (type_at As 0)
 rule fs Γ (mk_leaf A) As = builds (is_tree A) (first A ∷ []) A
-rule fs Γ mkNode As = let T = type_at As 3 in builds (is_tree T) (diamond ∷ diamond ∷ first T ∷ T ∷ T ∷ []) T
-rule fs Γ caseTree As = chooses (is_tree (type_at As 0)) (type_at As 0)
+rule fs Γ mk_node As = let T = type_at As 3 in builds (is_tree T) (diamond ∷ diamond ∷ first T ∷ T ∷ T ∷ []) T
+rule fs Γ case_tree As = chooses (is_tree (type_at As 0)) (type_at As 0)
 
 -- the parts' types are what the rule wants
 abbrev pub fits : Rule → List Ty → Bool
@@ -84,15 +84,15 @@ early (apply o) = false
 early guard = false
 early (mk_pair A) = false
 early case_pair = true
-early (mkLeft A) = false
-early (mkRight A) = false
+early (mk_left A) = false
+early (mk_right A) = false
 early case_sum = true
 early (mk_nil A) = false
-early mkCons = false
+early mk_cons = false
 early case_list = true
 early (mk_leaf A) = false
-early mkNode = false
-early caseTree = true
+early mk_node = false
+early case_tree = true
 
 -- all of the types are A
 abbrev pub alike : Ty → List Ty → Bool

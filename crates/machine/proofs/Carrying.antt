@@ -50,12 +50,12 @@ module _ (p : Program) (R : Ty) (code : Code) (m : Meaning) (x : Machine) (s : S
     pub midway_more : count < n → goes x'.mode ≡ true → (c : Midway p R code m x s n count m' x') → Enacts p R code m'' x'' (turned x'.mode p c.state) × Rest m' x' m'' x'' → (Returning x''.mode → ⊥)
         → Midway p R code m x s n (count + 1) m'' x''
     midway_more l e c f q =
-        let one-off : n - count ≡ suc (n - (count + 1)) = omega arith in
+        let one_off : n - count ≡ suc (n - (count + 1)) = omega arith in
         record {
           state = turned x'.mode p c.state;
           enacts = f.0;
           settled = q;
-          left = c.left ∙ ap (λ (k : ℕ). after count (run p limited k c.state)) one-off
+          left = c.left ∙ ap (λ (k : ℕ). after count (run p limited k c.state)) one_off
               ∙ ap (after count) (run_on x'.mode c.state e c.enacts.shape (n - (count + 1))) ∙ after_after count 1 (run p limited (n - (count + 1)) (turned x'.mode p c.state));
           rest = rest_then m m' m'' x x' x'' c.rest f.1;
         }

@@ -3,7 +3,7 @@ use Rattle.std.proofs.Common.{◌≡◌, ℕ, zero, suc, ◌+◌, ◌<◌, ◌�
 use Rattle.std.specs.List.{AllByRecursion}
 use Rattle.std.proofs.lemmas.List.{length-append, append_assoc, append-nil}
 use Rattle.std.proofs.lemmas.Bool.{leb-true}
-use Rattle.lfpl.specs.Syntax.{Ty, int, diamond, list_of, tree_of, pair_of, sum_of, width, Head, var, call, const, apply, guard, mk_pair, case_pair, mkLeft, mkRight, case_sum, mk_nil, mkCons, case_list, mk_leaf, mkNode, caseTree, Expr, Exprs, expr, end, ◌then◌, size, sizes, names, names_any, is_var, Fun}
+use Rattle.lfpl.specs.Syntax.{Ty, int, diamond, list_of, tree_of, pair_of, sum_of, width, Head, var, call, const, apply, guard, mk_pair, case_pair, mk_left, mk_right, case_sum, mk_nil, mk_cons, case_list, mk_leaf, mk_node, case_tree, Expr, Exprs, expr, end, ◌then◌, size, sizes, names, names_any, is_var, Fun}
 use Rattle.lfpl.specs.Typing.{rule, type_at, fun_at, opened}
 use Rattle.lfpl.specs.Values.{Typed}
 use Rattle.meaning.specs.Act.{types}
@@ -124,15 +124,15 @@ arm_widths fs Γ (apply o) As i a = omega arith
 arm_widths fs Γ guard As i a = opened_widths int i (record { low = omega arith; element = refl })
 arm_widths fs Γ (mk_pair A) As i a = omega arith
 arm_widths fs Γ case_pair As i a = opened_widths (type_at As 0) i (narrow_at As 0 a)
-arm_widths fs Γ (mkLeft A) As i a = omega arith
-arm_widths fs Γ (mkRight A) As i a = omega arith
+arm_widths fs Γ (mk_left A) As i a = omega arith
+arm_widths fs Γ (mk_right A) As i a = omega arith
 arm_widths fs Γ case_sum As i a = opened_widths (type_at As 0) i (narrow_at As 0 a)
 arm_widths fs Γ (mk_nil A) As i a = omega arith
-arm_widths fs Γ mkCons As i a = omega arith
+arm_widths fs Γ mk_cons As i a = omega arith
 arm_widths fs Γ case_list As i a = opened_widths (type_at As 0) i (narrow_at As 0 a)
 arm_widths fs Γ (mk_leaf A) As i a = omega arith
-arm_widths fs Γ mkNode As i a = omega arith
-arm_widths fs Γ caseTree As i a = opened_widths (type_at As 0) i (narrow_at As 0 a)
+arm_widths fs Γ mk_node As i a = omega arith
+arm_widths fs Γ case_tree As i a = opened_widths (type_at As 0) i (narrow_at As 0 a)
 
 -- the whole has the arms' type
 whole_arm : (fs : List Fun) (Γ : List Ty) (h : Head) (As : List Ty) (j : ℕ) (B : Ty) → j < length (rule fs Γ h As).arms → (rule fs Γ h As).whole B ≡ B
@@ -143,15 +143,15 @@ whole_arm fs Γ (apply o) As j B l = absurd (omega arith)
 whole_arm fs Γ guard As j B l = refl
 whole_arm fs Γ (mk_pair A) As j B l = absurd (omega arith)
 whole_arm fs Γ case_pair As j B l = refl
-whole_arm fs Γ (mkLeft A) As j B l = absurd (omega arith)
-whole_arm fs Γ (mkRight A) As j B l = absurd (omega arith)
+whole_arm fs Γ (mk_left A) As j B l = absurd (omega arith)
+whole_arm fs Γ (mk_right A) As j B l = absurd (omega arith)
 whole_arm fs Γ case_sum As j B l = refl
 whole_arm fs Γ (mk_nil A) As j B l = absurd (omega arith)
-whole_arm fs Γ mkCons As j B l = absurd (omega arith)
+whole_arm fs Γ mk_cons As j B l = absurd (omega arith)
 whole_arm fs Γ case_list As j B l = refl
 whole_arm fs Γ (mk_leaf A) As j B l = absurd (omega arith)
-whole_arm fs Γ mkNode As j B l = absurd (omega arith)
-whole_arm fs Γ caseTree As j B l = refl
+whole_arm fs Γ mk_node As j B l = absurd (omega arith)
+whole_arm fs Γ case_tree As j B l = refl
 
 module _ (fs : List Fun) (code : Code) where
   -- every body stands in the code

@@ -5,7 +5,7 @@ use Rattle.std.specs.List.{AllByRecursion}
 use Rattle.std.proofs.lemmas.List.{length-append}
 use Rattle.std.proofs.lemmas.Bool.{and_parts}
 use Rattle.lfpl.specs.Judge.{count, parts_naming}
-use Rattle.lfpl.specs.Syntax.{Ty, width, is_heap_free, Head, var, call, const, apply, guard, mk_pair, case_pair, mkLeft, mkRight, case_sum, mk_nil, mkCons, case_list, mk_leaf, mkNode, caseTree, Expr, Exprs, expr, end, ◌then◌, size, sizes, names, names_any, is_var, Fun}
+use Rattle.lfpl.specs.Syntax.{Ty, width, is_heap_free, Head, var, call, const, apply, guard, mk_pair, case_pair, mk_left, mk_right, case_sum, mk_nil, mk_cons, case_list, mk_leaf, mk_node, case_tree, Expr, Exprs, expr, end, ◌then◌, size, sizes, names, names_any, is_var, Fun}
 use Rattle.lfpl.specs.Typing.{rule, type_at, fits}
 use Rattle.lfpl.specs.Values.{Typed}
 use Rattle.meaning.specs.Act.{types}
@@ -89,15 +89,15 @@ no_var fs Γ (apply o) As i e l = refl
 no_var fs Γ guard As i e l = refl
 no_var fs Γ (mk_pair A) As i e l = refl
 no_var fs Γ case_pair As i e l = refl
-no_var fs Γ (mkLeft A) As i e l = refl
-no_var fs Γ (mkRight A) As i e l = refl
+no_var fs Γ (mk_left A) As i e l = refl
+no_var fs Γ (mk_right A) As i e l = refl
 no_var fs Γ case_sum As i e l = refl
 no_var fs Γ (mk_nil A) As i e l = refl
-no_var fs Γ mkCons As i e l = refl
+no_var fs Γ mk_cons As i e l = refl
 no_var fs Γ case_list As i e l = refl
 no_var fs Γ (mk_leaf A) As i e l = refl
-no_var fs Γ mkNode As i e l = refl
-no_var fs Γ caseTree As i e l = refl
+no_var fs Γ mk_node As i e l = refl
+no_var fs Γ case_tree As i e l = refl
 
 -- the variables' uses are shared out between a part and what comes after it
 apart_shared : (env : List Typed) (need fst snd : ℕ → Bool) → ((i : ℕ) → i < length (types env) → is_heap_free (type_at (types env) i) ≡ false → one (fst i) + one (snd i) ≤ one (need i))
@@ -170,8 +170,8 @@ module _ (fs : List Fun) (code : Code) (R : Ty) (m : Meaning) (ws : List ℕ) (r
       let need : ℕ → Bool = λ i. names i (expr h (e then es) qs) in
       let here : ℕ → Bool = λ i. names i e in
       let later : ℕ → Bool = λ i. names i (expr h es qs) in
-      let to-here : (i : ℕ) → here i ≡ true → need i ≡ true = λ i p. in_first (is_var i h) (names i e) (names_any i es) (names_any i qs) p in
-      let to-later : (i : ℕ) → later i ≡ true → need i ≡ true = λ i p. in_rest (is_var i h) (names i e) (names_any i es) (names_any i qs) p in
+      let to_here : (i : ℕ) → here i ≡ true → need i ≡ true = λ i p. in_first (is_var i h) (names i e) (names_any i es) (names_any i qs) p in
+      let to_later : (i : ℕ) → later i ≡ true → need i ≡ true = λ i p. in_rest (is_var i h) (names i e) (names_any i es) (names_any i qs) p in
       let ats = from r.base g.ps in
       let fixed' : Fixed fs code (onward code r) (frame n h env l vs (c + size e) es qs) g.ps (A ∷ []) g.type = record {
         number = f.number;
@@ -204,8 +204,8 @@ module _ (fs : List Fun) (code : Code) (R : Ty) (m : Meaning) (ws : List ℕ) (r
         high = omega (arith, f.short);
         down = omega arith;
         long = f.long;
-        variables = lies_higher m ws l.words (l.words + widths vs) here env ats (omega arith) (lies_less m ws l.words need here env ats to-here g.stage.variables);
-        stack = (g.type, rw new (record { fixed = fixed'; values = g.stage.values; variables = lies_less m ws l.words need later env ats to-later g.stage.variables }), refl, omega arith, rw new st.0);
+        variables = lies_higher m ws l.words (l.words + widths vs) here env ats (omega arith) (lies_less m ws l.words need here env ats to_here g.stage.variables);
+        stack = (g.type, rw new (record { fixed = fixed'; values = g.stage.values; variables = lies_less m ws l.words need later env ats to_later g.stage.variables }), refl, omega arith, rw new st.0);
         owned = λ d.
             let x = cells_of m ws need env ats in
             let x₁ = cells_of m ws here env ats in
@@ -213,7 +213,7 @@ module _ (fs : List Fun) (code : Code) (R : Ty) (m : Meaning) (ws : List ℕ) (r
             let y = cells_of m ws all vs (places l.words vs) in
             let w = stack_cells fs code m ws recs K g.pss in
             let w' = stack_cells fs code m ws recs' K g.pss in
-            let sh = cells_shared m ws l.words d need here later env ats g.stage.variables to-here to-later
+            let sh = cells_shared m ws l.words d need here later env ats g.stage.variables to_here to_later
             (apart_shared env need here later (λ i p q. split_uses (is_var i h) (names i e) (names_any i es) (names_any i qs) (parts_naming i es) (nov i) (parts_name i es) (f.apart i p q))) in
             let k : stage_cells fs code m ws (get_or recs' (length K) nobody) (frame n h env l vs (c + size e) es qs) g.ps ≡ x₂ ++ y = rw new refl in
             rw k (omega (arith, g.owned d, occ_append d (x ++ y) w, occ_append d x y, occ_append d x₁ ((x₂ ++ y) ++ w'), occ_append d (x₂ ++ y) w', occ_append d x₂ y, ap (occ d) st.1));

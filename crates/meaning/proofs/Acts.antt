@@ -6,7 +6,7 @@ use mathlib.Core.Path.{subst⁻¹}
 use lib.Signed.{le_z}
 use Rattle.std.proofs.lemmas.Bool.{and_parts, ltb-true, eq-eqb}
 use Rattle.std.proofs.lemmas.Int.{SFits-int_wrap}
-use Rattle.lfpl.specs.Syntax.{Ty, int, diamond, first, second, same_ty, Infix, plus, minus, times, equal, at_most, Head, var, call, const, apply, guard, mk_pair, case_pair, mkLeft, mkRight, case_sum, mk_nil, mkCons, case_list, mk_leaf, mkNode, caseTree, is_var, Fun}
+use Rattle.lfpl.specs.Syntax.{Ty, int, diamond, first, second, same_ty, Infix, plus, minus, times, equal, at_most, Head, var, call, const, apply, guard, mk_pair, case_pair, mk_left, mk_right, case_sum, mk_nil, mk_cons, case_list, mk_leaf, mk_node, case_tree, is_var, Fun}
 use Rattle.lfpl.specs.Typing.{type_at, fun_at, opened, Rule, builds, chooses, rule, fits}
 use Rattle.lfpl.specs.Values.{Val, num, dia, nil, cons, leaf, node, pair, left, right, charge, In, Typed, ◌of◌}
 use Rattle.lfpl.proofs.SameTypes.{same_eq, sames_eq}
@@ -163,28 +163,28 @@ module _ (fs : List Fun) where
       fit2 (λ l r. Ok fs (rule fs Γ (mk_pair A) As) (weight (λ j. is_var j (mk_pair A)) 0 env) (charges l) r) vs (first A) (second A) _ w
       (λ a b ha hb. ((λ B. (refl, (same_eq _ _ t, ha.1, hb.1))), omega arith))
   does_ok case_pair env vs Γ As f t w = kind_ok (type_at As 0) _ _ vs t refl w
-  does_ok (mkLeft A) env vs Γ As f t w =
-      fit1 (λ l r. Ok fs (rule fs Γ (mkLeft A) As) (weight (λ j. is_var j (mkLeft A)) 0 env) (charges l) r) vs (first A) _ w
+  does_ok (mk_left A) env vs Γ As f t w =
+      fit1 (λ l r. Ok fs (rule fs Γ (mk_left A) As) (weight (λ j. is_var j (mk_left A)) 0 env) (charges l) r) vs (first A) _ w
       (λ a ha. ((λ B. (refl, (same_eq _ _ t, ha.1))), omega arith))
-  does_ok (mkRight A) env vs Γ As f t w =
-      fit1 (λ l r. Ok fs (rule fs Γ (mkRight A) As) (weight (λ j. is_var j (mkRight A)) 0 env) (charges l) r) vs (second A) _ w
+  does_ok (mk_right A) env vs Γ As f t w =
+      fit1 (λ l r. Ok fs (rule fs Γ (mk_right A) As) (weight (λ j. is_var j (mk_right A)) 0 env) (charges l) r) vs (second A) _ w
       (λ a ha. ((λ B. (refl, (same_eq _ _ t, ha.1))), omega arith))
   does_ok case_sum env vs Γ As f t w = kind_ok (type_at As 0) _ _ vs t refl w
   does_ok (mk_nil A) env vs Γ As f t w = ((λ B. (refl, same_eq _ _ t)), omega arith)
-  does_ok mkCons env vs Γ As f t w =
-      fit3 (λ l r. Ok fs (rule fs Γ mkCons As) (weight (λ j. is_var j mkCons) 0 env) (charges l) r) vs diamond (first (type_at As 2)) (type_at As 2) _ w
+  does_ok mk_cons env vs Γ As f t w =
+      fit3 (λ l r. Ok fs (rule fs Γ mk_cons As) (weight (λ j. is_var j mk_cons) 0 env) (charges l) r) vs diamond (first (type_at As 2)) (type_at As 2) _ w
       (λ d a b hd ha hb. ((λ B. (hb.0, (same_eq _ _ t, ha.1, hb.1))), let s = diamond_charge diamond d.value refl hd.1 in omega arith))
   does_ok case_list env vs Γ As f t w = kind_ok (type_at As 0) _ _ vs t refl w
   does_ok (mk_leaf A) env vs Γ As f t w =
       fit1 (λ l r. Ok fs (rule fs Γ (mk_leaf A) As) (weight (λ j. is_var j (mk_leaf A)) 0 env) (charges l) r) vs (first A) _ w
       (λ a ha. ((λ B. (refl, (same_eq _ _ t, ha.1))), omega arith))
-  does_ok mkNode env vs Γ As f t w =
-      fit5 (λ l r. Ok fs (rule fs Γ mkNode As) (weight (λ j. is_var j mkNode) 0 env) (charges l) r) vs diamond diamond (first (type_at As 3)) (type_at As 3) (type_at As 3) _ w
+  does_ok mk_node env vs Γ As f t w =
+      fit5 (λ l r. Ok fs (rule fs Γ mk_node As) (weight (λ j. is_var j mk_node) 0 env) (charges l) r) vs diamond diamond (first (type_at As 3)) (type_at As 3) (type_at As 3) _ w
       (λ d e a l r hd he ha hl hr. (
         (λ B. (hl.0, (same_eq _ _ t, ha.1, hl.1, hr.1))),
         let s = diamond_charge diamond d.value refl hd.1 in let s' = diamond_charge diamond e.value refl he.1 in omega arith,
       ))
-  does_ok caseTree env vs Γ As f t w = kind_ok (type_at As 0) _ _ vs t refl w
+  does_ok case_tree env vs Γ As f t w = kind_ok (type_at As 0) _ _ vs t refl w
 
   pub act_ok : (h : Head) (env vs : List Typed) (Γ As : List Ty) → Fit env Γ → Fit vs As → fits (rule fs Γ h As) As ≡ true
       → Ok fs (rule fs Γ h As) (weight (λ j. is_var j h) 0 env) (charges vs) (act fs h env vs)

@@ -8,7 +8,7 @@ use mathlib.Core.Path.{subst⁻¹}
 use Rattle.std.specs.List.{AllByRecursion}
 use Rattle.std.proofs.lemmas.Bool.{and_parts, or_left, or_right}
 use Rattle.std.proofs.ByRecursion.{All-append}
-use Rattle.lfpl.specs.Syntax.{Ty, int, Head, var, call, const, apply, guard, mk_pair, case_pair, mkLeft, mkRight, case_sum, mk_nil, mkCons, case_list, mk_leaf, mkNode, caseTree, Expr, Exprs, expr, end, ◌then◌, names, names_any, is_var, size, Fun, Program}
+use Rattle.lfpl.specs.Syntax.{Ty, int, Head, var, call, const, apply, guard, mk_pair, case_pair, mk_left, mk_right, case_sum, mk_nil, mk_cons, case_list, mk_leaf, mk_node, case_tree, Expr, Exprs, expr, end, ◌then◌, names, names_any, is_var, size, Fun, Program}
 use Rattle.lfpl.specs.Typing.{same_tys, fun_at, Rule, rule, fits}
 use Rattle.lfpl.specs.Values.{charge, Typed}
 use Rattle.lfpl.proofs.Typed.{Typ, TypArms, Under, Bodies}
@@ -50,15 +50,15 @@ no_var fs (apply o) Γ Vs A As t j = refl
 no_var fs guard Γ Vs A As t j = refl
 no_var fs (mk_pair S) Γ Vs A As t j = refl
 no_var fs case_pair Γ Vs A As t j = refl
-no_var fs (mkLeft S) Γ Vs A As t j = refl
-no_var fs (mkRight S) Γ Vs A As t j = refl
+no_var fs (mk_left S) Γ Vs A As t j = refl
+no_var fs (mk_right S) Γ Vs A As t j = refl
 no_var fs case_sum Γ Vs A As t j = refl
 no_var fs (mk_nil S) Γ Vs A As t j = refl
-no_var fs mkCons Γ Vs A As t j = refl
+no_var fs mk_cons Γ Vs A As t j = refl
 no_var fs case_list Γ Vs A As t j = refl
 no_var fs (mk_leaf S) Γ Vs A As t j = refl
-no_var fs mkNode Γ Vs A As t j = refl
-no_var fs caseTree Γ Vs A As t j = refl
+no_var fs mk_node Γ Vs A As t j = refl
+no_var fs case_tree Γ Vs A As t j = refl
 
 or_rest : (a b : Bool) → a ≡ false → (a || b) ≡ true → b ≡ true
 or_rest true b e h = absurd (true≢false e)

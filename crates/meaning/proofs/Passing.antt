@@ -3,7 +3,7 @@ use Rattle.std.proofs.Common.{◌≡◌, ℕ, zero, suc, Bool, true, List, [], �
 use mathlib.Core.Path.{subst⁻¹}
 use Rattle.std.specs.List.{AllByRecursion}
 use Rattle.std.proofs.ByRecursion.{All-append}
-use Rattle.lfpl.specs.Syntax.{Ty, int, diamond, list_of, tree_of, pair_of, sum_of, Head, var, call, const, apply, guard, mk_pair, case_pair, mkLeft, mkRight, case_sum, mk_nil, mkCons, case_list, mk_leaf, mkNode, caseTree, Fun}
+use Rattle.lfpl.specs.Syntax.{Ty, int, diamond, list_of, tree_of, pair_of, sum_of, Head, var, call, const, apply, guard, mk_pair, case_pair, mk_left, mk_right, case_sum, mk_nil, mk_cons, case_list, mk_leaf, mk_node, case_tree, Fun}
 use Rattle.lfpl.specs.Typing.{type_at, fun_at, opened, rule}
 use Rattle.lfpl.specs.Values.{Typed}
 use Rattle.meaning.specs.Sound.{Fit}
@@ -75,12 +75,12 @@ module _ (G : Ty → Bool) (closed : Closed G) where
     rule_passes guard Γ As n g a = (opened_passes int n, n)
     rule_passes (mk_pair A) Γ As n g a = (tt, n)
     rule_passes case_pair Γ As n g a = (opened_passes (type_at As 0) (passes_at As 0 a), n)
-    rule_passes (mkLeft A) Γ As n g a = (tt, n)
-    rule_passes (mkRight A) Γ As n g a = (tt, n)
+    rule_passes (mk_left A) Γ As n g a = (tt, n)
+    rule_passes (mk_right A) Γ As n g a = (tt, n)
     rule_passes case_sum Γ As n g a = (opened_passes (type_at As 0) (passes_at As 0 a), n)
     rule_passes (mk_nil A) Γ As n g a = (tt, n)
-    rule_passes mkCons Γ As n g a = (tt, passes_at As 2 a)
+    rule_passes mk_cons Γ As n g a = (tt, passes_at As 2 a)
     rule_passes case_list Γ As n g a = (opened_passes (type_at As 0) (passes_at As 0 a), n)
     rule_passes (mk_leaf A) Γ As n g a = (tt, n)
-    rule_passes mkNode Γ As n g a = (tt, passes_at As 3 a)
-    rule_passes caseTree Γ As n g a = (opened_passes (type_at As 0) (passes_at As 0 a), n)
+    rule_passes mk_node Γ As n g a = (tt, passes_at As 3 a)
+    rule_passes case_tree Γ As n g a = (opened_passes (type_at As 0) (passes_at As 0 a), n)

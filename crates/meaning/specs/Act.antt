@@ -1,7 +1,7 @@
 -- What an expression does once its parts are worked out: it gives a value, chooses an arm, or enters a function.
 use Rattle.std.specs.Prelude.{ℕ, zero, suc, Bool, false, cond, List, [], ◌∷◌, map, ℤ, pos, negsuc, ◌+ℤ◌, ◌-ℤ◌, ◌*ℤ◌, ◌==◌, int_le}
 use Rattle.std.specs.Int.{int_wrap, w32}
-use Rattle.lfpl.specs.Syntax.{Ty, int, diamond, first, second, Infix, plus, minus, times, equal, at_most, Head, var, call, const, apply, guard, mk_pair, case_pair, mkLeft, mkRight, case_sum, mk_nil, mkCons, case_list, mk_leaf, mkNode, caseTree, Fun}
+use Rattle.lfpl.specs.Syntax.{Ty, int, diamond, first, second, Infix, plus, minus, times, equal, at_most, Head, var, call, const, apply, guard, mk_pair, case_pair, mk_left, mk_right, case_sum, mk_nil, mk_cons, case_list, mk_leaf, mk_node, case_tree, Fun}
 use Rattle.lfpl.specs.Typing.{rule, fits}
 use Rattle.lfpl.specs.Values.{Val, num, dia, nil, cons, leaf, node, pair, left, right, Typed, ◌of◌}
 
@@ -104,15 +104,15 @@ does (apply o) env vs = with2 vs (λ a b. give (num (compute o (number_of a.valu
 does guard env vs = with1 vs (λ a. unmake a.type a.value)
 does (mk_pair A) env vs = with2 vs (λ a b. give (pair a.value b.value of A))
 does case_pair env vs = with1 vs (λ a. unmake a.type a.value)
-does (mkLeft A) env vs = with1 vs (λ a. give (left a.value of A))
-does (mkRight A) env vs = with1 vs (λ a. give (right a.value of A))
+does (mk_left A) env vs = with1 vs (λ a. give (left a.value of A))
+does (mk_right A) env vs = with1 vs (λ a. give (right a.value of A))
 does case_sum env vs = with1 vs (λ a. unmake a.type a.value)
 does (mk_nil A) env vs = give (nil of A)
-does mkCons env vs = with3 vs (λ d a b. give (cons a.value b.value of b.type))
+does mk_cons env vs = with3 vs (λ d a b. give (cons a.value b.value of b.type))
 does case_list env vs = with1 vs (λ a. unmake a.type a.value)
 does (mk_leaf A) env vs = with1 vs (λ a. give (leaf a.value of A))
-does mkNode env vs = with5 vs (λ d e a l r. give (node a.value l.value r.value of l.type))
-does caseTree env vs = with1 vs (λ a. unmake a.type a.value)
+does mk_node env vs = with5 vs (λ d e a l r. give (node a.value l.value r.value of l.type))
+does case_tree env vs = with1 vs (λ a. unmake a.type a.value)
 
 -- the types of values
 abbrev pub types : List Typed → List Ty

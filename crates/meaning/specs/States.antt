@@ -1,7 +1,7 @@
 -- What a going run's state of a judged program is made of: numbers that are places in the table, no more than the limits allow, and types that the program writes.
 use Rattle.std.specs.Prelude.{◌≡◌, ℕ, ◌+◌, ◌<◌, ◌≤◌, Bool, true, List, [], ◌∷◌, ◌++◌, map, length}
 use Rattle.std.specs.List.{AllByRecursion}
-use Rattle.lfpl.specs.Syntax.{Ty, int, diamond, first, second, Head, var, call, const, apply, guard, mk_pair, case_pair, mkLeft, mkRight, case_sum, mk_nil, mkCons, case_list, mk_leaf, mkNode, caseTree, Expr, Exprs, expr, end, ◌then◌, Fun, Program}
+use Rattle.lfpl.specs.Syntax.{Ty, int, diamond, first, second, Head, var, call, const, apply, guard, mk_pair, case_pair, mk_left, mk_right, case_sum, mk_nil, mk_cons, case_list, mk_leaf, mk_node, case_tree, Expr, Exprs, expr, end, ◌then◌, Fun, Program}
 use Rattle.lfpl.specs.Values.{Typed}
 use Rattle.meaning.specs.Mean.{widths, Limit, limited}
 use Rattle.meaning.specs.Machine.{going, Item, Frame, run, start}
@@ -63,15 +63,15 @@ noted (apply o) = int
 noted guard = int
 noted (mk_pair A) = A
 noted case_pair = int
-noted (mkLeft A) = A
-noted (mkRight A) = A
+noted (mk_left A) = A
+noted (mk_right A) = A
 noted case_sum = int
 noted (mk_nil A) = A
-noted mkCons = int
+noted mk_cons = int
 noted case_list = int
 noted (mk_leaf A) = A
-noted mkNode = int
-noted caseTree = int
+noted mk_node = int
+noted case_tree = int
 
 -- the types that a function writes: its parameters', its result's and those in its body
 abbrev pub types_in : Fun → List Ty

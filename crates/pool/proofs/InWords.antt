@@ -78,8 +78,8 @@ changed ws ws' i c f l e =
     ext_get_or None (in_words ws') (set (in_words ws) i c)
     (length_in ws' ∙ many ∙ sym (length_in ws) ∙ sym (length-set (in_words ws) i c))
     (λ k h.
-    let k-in : k < cells_of ws' = omega (arith, length_in ws') in
-    get_or_in ws' k k-in ∙
+    let k_in : k < cells_of ws' = omega (arith, length_in ws') in
+    get_or_in ws' k k_in ∙
     ⊎_elim (λ is. ap (cell_of ws') is ∙ e ∙ sym (get_or-set_same (in_words ws) i c None (omega (arith, length_in ws))) ∙ ap (λ x. get_or (set (in_words ws) i c) x None) (sym is))
     (λ ne. same_cell ws ws' i k f ne ∙ sym (get_or_in ws k (omega arith)) ∙ sym (get_or-set_other (in_words ws) i k c None ne))
     (cases_eq k i))

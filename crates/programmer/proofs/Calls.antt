@@ -127,7 +127,7 @@ placed : (made m m' : Meaning) (l : Ledger) (p : View) (i t : ℕ) (v : Val) (s 
     → Holds m (footprint m' (type_at (types_of l) t) v s.words 0) v m'
     → Agrees made (with_shelf l i (value t v)) m' (with_shelves p (set p.shelves i (Filled s)))
     × Besides m (cells_at m' (with_shelf l i (value t v)) (with_shelves p (set p.shelves i (Filled s))) i) m'
-placed made m m' l p i t v s a low is-bare known number few sh b =
+placed made m m' l p i t v s a low is_bare known number few sh b =
     let ts = types_of l in
     let xs = l.shelves in
     let ss = p.shelves in
@@ -136,8 +136,8 @@ placed made m m' l p i t v s a low is-bare known number few sh b =
     let old : (c : ℕ) → occ c (cells_held m l p) ≡ occ c (cells_on_all m ts xs ss) + occ c (cells_of_run p.run) = λ c. occ_append c (cells_on_all m ts xs ss) (cells_of_run p.run) in
     let mv = stand_moved m m' ts xs ss a.shelves (λ c h. b.keeps c (omega (arith, a.cells c, old c, used_le m c))) in
     let here : Stands m' ts (value t v) (Filled s) = (number, known, sh) in
-    let gone : cells_on m' ts (get_or xs i nothing) (get_or ss i Empty) ≡ [] = ap (λ (x : Content). cells_on m' ts x (get_or ss i Empty)) is-bare in
-    let free-there : cost (get_or xs i nothing) ≡ 0 = ap cost is-bare in
+    let gone : cells_on m' ts (get_or xs i nothing) (get_or ss i Empty) ≡ [] = ap (λ (x : Content). cells_on m' ts x (get_or ss i Empty)) is_bare in
+    let free_there : cost (get_or xs i nothing) ≡ 0 = ap cost is_bare in
     let sum = costs_set xs (value t v) i inside in
     let at : cells_at m' (with_shelf l i (value t v)) (with_shelves p (set ss i (Filled s))) i ≡ fp
     = ap₂ (cells_on m' ts) (get_or-set_same xs i (value t v) nothing inside) (get_or-set_same ss i (Filled s) Empty (omega (arith, inside, stand_length m ts xs ss a.shelves))) in (
@@ -154,8 +154,8 @@ placed made m m' l p i t v s a low is-bare known number few sh b =
             let new = occ_append c (cells_on_all m' ts (set xs i (value t v)) (set ss i (Filled s))) (cells_of_run p.run) in
             omega (arith, new, old c, cells_set m' ts xs ss (value t v) (Filled s) c mv.0 i inside, ap (occ c) gone, ap (occ c) mv.1, b.cells c, a.cells c);
         earlier = λ c h. b.keeps c (omega (arith, a.cells c, used_le m c)) ∙ a.earlier c h;
-        count = omega (arith, sum, free-there, b.count, a.count);
-        within = omega (arith, sum, free-there, few, a.within);
+        count = omega (arith, sum, free_there, b.count, a.count);
+        within = omega (arith, sum, free_there, few, a.within);
         bound = b.bound ∙ a.bound;
       },
       record {
@@ -170,18 +170,18 @@ placed made m m' l p i t v s a low is-bare known number few sh b =
 cleared : (made m m' : Meaning) (l : Ledger) (p : View) (i t : ℕ) (v : Val) (s : Stored) → Agrees made l m p → i < 16 → shelf l i ≡ value t v
     → get_or p.shelves i Empty ≡ Filled s → Shows m (type_at (types_of l) t) v s.words 0 → Releases m (type_at (types_of l) t) s.words 0 512 m'
     → Agrees made (with_shelf l i nothing) m' (with_shelves p (set p.shelves i Empty)) × Besides m' (cells_at m l p i) m
-cleared made m m' l p i t v s a low is-value is-filled sh r =
+cleared made m m' l p i t v s a low is_value says_filled sh r =
     let ts = types_of l in
     let xs = l.shelves in
     let ss = p.shelves in
     let fp = footprint m (type_at ts t) v s.words 0 in
     let inside : i < length xs = omega (arith, a.sixteen) in
-    let was : cells_at m l p i ≡ fp = ap₂ (cells_on m ts) is-value is-filled in
+    let was : cells_at m l p i ≡ fp = ap₂ (cells_on m ts) is_value says_filled in
     let old : (c : ℕ) → occ c (cells_held m l p) ≡ occ c (cells_on_all m ts xs ss) + occ c (cells_of_run p.run) = λ c. occ_append c (cells_on_all m ts xs ss) (cells_of_run p.run) in
     let rest : (c : ℕ) → occ c (cells_on_all m ts (set xs i nothing) (set ss i Empty)) + occ c fp ≡ occ c (cells_on_all m ts xs ss)
     = λ c. omega (arith, cells_set m ts xs ss nothing Empty c a.shelves i inside, ap (occ c) was) in
     let sum = costs_set xs nothing i inside in
-    let freed : cost (get_or xs i nothing) ≡ charge v = ap cost is-value in
+    let freed : cost (get_or xs i nothing) ≡ charge v = ap cost is_value in
     let once : (c : ℕ) → occ c fp ≤ 1 = λ c. omega (arith, rest c, old c, a.cells c, used_le m c) in
     let rel = r v sh (omega (arith, sum, freed, a.within, a.least)) once in
     let mv = stand_moved m m' ts (set xs i nothing) (set ss i Empty) (stand_set m ts xs ss nothing Empty a.shelves tt i)
@@ -252,7 +252,7 @@ adopt_granted made m l p bs i t a e h k r =
     let g = r.0 in
     let bare = none_filled made m l p i a h k in
     let b = stand_bare m (types_of l) g.types l.shelves p.shelves a.shelves (omega (arith, a.sixteen, bare)) in
-    let held-still : cells_held m (with_table l g) (with_the_table p t) ≡ cells_held m l p = ap (λ (xs : List ℕ). xs ++ cells_of_run p.run) b.1 in
+    let held_still : cells_held m (with_table l g) (with_the_table p t) ≡ cells_held m l p = ap (λ (xs : List ℕ). xs ++ cells_of_run p.run) b.1 in
     let r₁ = r.1 in
     by_turn (adopt bs) _ made l m p m (with_the_table p t) (granted, with_table l g) (adopt_turn made m l p bs a e bare ∙ rw r₁ refl) (
       refl,
@@ -265,7 +265,7 @@ adopt_granted made m l p bs i t a e h k r =
         sixteen = a.sixteen;
         shelves = b.0;
         run = a.run;
-        cells = λ c. omega (arith, a.cells c, ap (occ c) held-still);
+        cells = λ c. omega (arith, a.cells c, ap (occ c) held_still);
         earlier = a.earlier;
         count = a.count;
         within = a.within;
@@ -293,7 +293,7 @@ module _ (made m : Meaning) (l : Ledger) (p : View) (i t : ℕ) (bs : List ℕ) 
         let z : leb (length (types_of l)) t ≡ true = le-leb _ _ (omega (arith, (types_listed l.table p.table a.table).long)) in
         refuse (put i t bs) _ made l m p m _ refl a (rw (x, y, z) refl) refl
 
-    module _ (known : t < length (entries_in p.table)) (m' : Meaning) (z : ℕ) (z-is : z ≡ p.total - (p.made - m.free)) where
+    module _ (known : t < length (entries_in p.table)) (m' : Meaning) (z : ℕ) (z_is : z ≡ p.total - (p.made - m.free)) where
       known_there : t < length (types_of l)
       known_there = omega (arith, (types_listed l.table p.table a.table).long)
 
@@ -302,7 +302,7 @@ module _ (made m : Meaning) (l : Ledger) (p : View) (i t : ℕ) (bs : List ℕ) 
           let x : leb 16 i ≡ false = lt-leb 16 i low in
           let y = bare_there in
           let k : leb (length (types_of l)) t ≡ false = lt-leb _ _ known_there in
-          let w : min (min z m.free) 512 ≡ spare_in l = omega (arith, z-is, spare_is made m l p a, a.least, a.count) in
+          let w : min (min z m.free) 512 ≡ spare_in l = omega (arith, z_is, spare_is made m l p a, a.least, a.count) in
           rw (x, y, k, w) refl
 
       pub put_unread : (es : List Entry) (f : Fault) → es ≡ entries_in p.table
@@ -326,7 +326,7 @@ module _ (made m : Meaning) (l : Ledger) (p : View) (i t : ℕ) (bs : List ℕ) 
               → Follows (put i t bs) (Plainly (Ok tt)) made l m p m' (with_shelves p (set p.shelves i (Filled s)))
           go (refused why q) d y u = absurd u
           go (done r q) d y u =
-              let k = placed made m m' l p i t r.0 s a low bare_there known_there number (omega (arith, d.1, z-is, spare_is made m l p a)) u.0 u.1 in
+              let k = placed made m m' l p i t r.0 s a low bare_there known_there number (omega (arith, d.1, z_is, spare_is made m l p a)) u.0 u.1 in
               by_turn (put i t bs) _ made l m p m' _ _ y (refl, k.0, k.1)
 
 -- bytes that are refused leave the pool's meaning

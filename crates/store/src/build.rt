@@ -51,7 +51,7 @@ fn set_two(words: &mut [u32; 16], place: usize, first: u32, second: u32)
 }
 
 // Builds the value of the type `t` that begins at `at`, its words from `o` on, and answers the place after it.
-#[cycle(build_build_cell_build_pair)]
+#[cycle(building)]
 fn build<P: Pool>(
     pool: &mut P,
     entries: &[Entry],
@@ -120,7 +120,7 @@ fn build<P: Pool>(
 }
 
 // Builds two values, of the types `first` and `second`, one after the other.
-#[cycle(build_build_cell_build_pair)]
+#[cycle(building)]
 fn build_pair<P: Pool>(
     pool: &mut P,
     entries: &[Entry],
@@ -144,7 +144,7 @@ fn build_pair<P: Pool>(
 }
 
 // Builds the value of the type `t` that begins at `at` in a cell of its own; answers the cell and the place after the value.
-#[cycle(build_build_cell_build_pair)]
+#[cycle(building)]
 fn build_cell<P: Pool>(
     pool: &mut P,
     entries: &[Entry],

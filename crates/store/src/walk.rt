@@ -53,7 +53,7 @@ fn load<P: Pool>(pool: &P, cell: u32) -> [u32; 16]
 }
 
 // Hands the value of the type `t` in the words from `o` on to the sink. It has at most `left` cells: whatever the words are, the walk ends.
-#[cycle(walk_walk_cell_walk_pair)]
+#[cycle(walking)]
 pub fn walk<P: Pool, S: Sink>(
     pool: &P,
     entries: &[Entry],
@@ -115,7 +115,7 @@ pub fn walk<P: Pool, S: Sink>(
 }
 
 // Hands two values, of the types `first` and `second`, one after the other.
-#[cycle(walk_walk_cell_walk_pair)]
+#[cycle(walking)]
 fn walk_pair<P: Pool, S: Sink>(
     pool: &P,
     entries: &[Entry],
@@ -138,7 +138,7 @@ fn walk_pair<P: Pool, S: Sink>(
 }
 
 // Hands a cell and the value of the type `t` that it holds.
-#[cycle(walk_walk_cell_walk_pair)]
+#[cycle(walking)]
 fn walk_cell<P: Pool, S: Sink>(
     pool: &P,
     entries: &[Entry],

@@ -1,7 +1,7 @@
 -- What a flat table lists: the program that its entries, signatures and nodes stand for.
 use Rattle.std.specs.Prelude.{◌≡◌, ℕ, ◌+◌, ◌<◌, ◌≤◌, true, List, [], ◌∷◌, map, length, take, replicate, slice_index_or}
 use Rattle.codec.specs.Integer.{unzigzag}
-use Rattle.lfpl.specs.Syntax.{Ty, int, diamond, list_of, tree_of, pair_of, sum_of, width, is_heap_free, plus, Head, var, call, const, apply, guard, mk_pair, case_pair, mkLeft, mkRight, case_sum, mk_nil, mkCons, case_list, mk_leaf, mkNode, caseTree, Expr, Exprs, expr, end, ◌then◌, Program}
+use Rattle.lfpl.specs.Syntax.{Ty, int, diamond, list_of, tree_of, pair_of, sum_of, width, is_heap_free, plus, Head, var, call, const, apply, guard, mk_pair, case_pair, mk_left, mk_right, case_sum, mk_nil, mk_cons, case_list, mk_leaf, mk_node, case_tree, Expr, Exprs, expr, end, ◌then◌, Program}
 use Rattle.lfpl.specs.Typing.{type_at}
 use Rattle.lfpl.specs.Reading.{Names, shape, operations, roomy, Signature as TypeOf, functions_of, arity}
 use Rattle.tables.specs.declared.listing.Entry.{Entry}
@@ -91,15 +91,15 @@ head_by Kind.Infix ts o = apply (slice_index_or operations o plus)
 head_by Kind.Guard ts n = guard
 head_by Kind.MakePair ts t = mk_pair (type_at ts t)
 head_by Kind.SplitPair ts n = case_pair
-head_by Kind.MakeLeft ts t = mkLeft (type_at ts t)
-head_by Kind.MakeRight ts t = mkRight (type_at ts t)
+head_by Kind.MakeLeft ts t = mk_left (type_at ts t)
+head_by Kind.MakeRight ts t = mk_right (type_at ts t)
 head_by Kind.CaseSum ts n = case_sum
 head_by Kind.EmptyList ts t = mk_nil (type_at ts t)
-head_by Kind.MakeCons ts n = mkCons
+head_by Kind.MakeCons ts n = mk_cons
 head_by Kind.CaseList ts n = case_list
 head_by Kind.MakeLeaf ts t = mk_leaf (type_at ts t)
-head_by Kind.MakeNode ts n = mkNode
-head_by Kind.CaseTree ts n = caseTree
+head_by Kind.MakeNode ts n = mk_node
+head_by Kind.CaseTree ts n = case_tree
 
 -- the head that a node stands for
 abbrev pub head_of : List Ty → Node → Head

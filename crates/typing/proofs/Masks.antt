@@ -4,7 +4,7 @@ use native.Mathlib.Nat.{div_self, div-eq_of_lt}
 use lib.Bits.{bit_or, bit_and, or_shr, and_shr, or_step, and_step, and_le_r}
 use Rattle.std.proofs.lemmas.Nat.{pow_pos, pow-add, shl-shr, shr-shr, pow_below}
 use Rattle.std.proofs.lemmas.Bool.{eq-eqb, ne_eqb, eqb-false, le-leb, true≢false, cases_Bool, cases_eq}
-use Rattle.lfpl.specs.Syntax.{Ty, is_heap_free, Head, var, call, const, apply, guard, mk_pair, case_pair, mkLeft, mkRight, case_sum, mk_nil, mkCons, case_list, mk_leaf, mkNode, caseTree, Expr, Exprs, expr, end, ◌then◌, is_var, names, names_any}
+use Rattle.lfpl.specs.Syntax.{Ty, is_heap_free, Head, var, call, const, apply, guard, mk_pair, case_pair, mk_left, mk_right, case_sum, mk_nil, mk_cons, case_list, mk_leaf, mk_node, case_tree, Expr, Exprs, expr, end, ◌then◌, is_var, names, names_any}
 use Rattle.lfpl.specs.Judge.{count, parts_naming, shares}
 use Rattle.typing.specs.Scopes.{has, heavy, head_mask, mask, masks, twice}
 
@@ -87,15 +87,15 @@ head_names (apply o) v = has_none v
 head_names guard v = has_none v
 head_names (mk_pair A) v = has_none v
 head_names case_pair v = has_none v
-head_names (mkLeft A) v = has_none v
-head_names (mkRight A) v = has_none v
+head_names (mk_left A) v = has_none v
+head_names (mk_right A) v = has_none v
 head_names case_sum v = has_none v
 head_names (mk_nil A) v = has_none v
-head_names mkCons v = has_none v
+head_names mk_cons v = has_none v
 head_names case_list v = has_none v
 head_names (mk_leaf A) v = has_none v
-head_names mkNode v = has_none v
-head_names caseTree v = has_none v
+head_names mk_node v = has_none v
+head_names case_tree v = has_none v
 
 mutual
   mask_names : (e : Expr) (v : ℕ) → has (mask e) v ≡ names v e

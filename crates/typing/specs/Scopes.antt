@@ -1,6 +1,6 @@
 -- Variables in scope, and sets of variables as numbers.
 use Rattle.std.specs.Prelude.{◌≡◌, ℕ, zero, suc, ◌+◌, ◌/◌, ◌%◌, ◌^◌, ◌<◌, ◌≤◌, Bool, false, not, List, [], ◌∷◌, length, take, ◌==◌, bit_and, bit_or}
-use Rattle.lfpl.specs.Syntax.{Ty, width, is_heap_free, Head, var, call, const, apply, guard, mk_pair, case_pair, mkLeft, mkRight, case_sum, mk_nil, mkCons, case_list, mk_leaf, mkNode, caseTree, Expr, Exprs, expr, end, ◌then◌}
+use Rattle.lfpl.specs.Syntax.{Ty, width, is_heap_free, Head, var, call, const, apply, guard, mk_pair, case_pair, mk_left, mk_right, case_sum, mk_nil, mk_cons, case_list, mk_leaf, mk_node, case_tree, Expr, Exprs, expr, end, ◌then◌}
 use Rattle.typing.specs.Codes.{CodedAll}
 use Rattle.typing.specs.declared.scope.Scope.{Scope}
 
@@ -23,15 +23,15 @@ head_mask (apply o) = 0
 head_mask guard = 0
 head_mask (mk_pair A) = 0
 head_mask case_pair = 0
-head_mask (mkLeft A) = 0
-head_mask (mkRight A) = 0
+head_mask (mk_left A) = 0
+head_mask (mk_right A) = 0
 head_mask case_sum = 0
 head_mask (mk_nil A) = 0
-head_mask mkCons = 0
+head_mask mk_cons = 0
 head_mask case_list = 0
 head_mask (mk_leaf A) = 0
-head_mask mkNode = 0
-head_mask caseTree = 0
+head_mask mk_node = 0
+head_mask case_tree = 0
 
 abbrev mutual
   pub mask : Expr → ℕ

@@ -1,5 +1,5 @@
 use Rattle.std.proofs.Common.{◌+◌, ◌*◌, max}
-use Rattle.store.proofs.walk.+walk_walk_cell_walk_pair.Given as goal
+use Rattle.store.proofs.walk.+walking.Given as goal
 
 abbrev pub decreases-walk : goal.decreases-walk
 decreases-walk g l = 512 * l.left + (2 * l.t + 2)

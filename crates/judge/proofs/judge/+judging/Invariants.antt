@@ -1,5 +1,5 @@
 use Rattle.std.proofs.Common.{◌+◌, ◌-◌, ◌*◌}
-use Rattle.judge.proofs.judge.+judge_judge_arms_judge_parts.Given as goal
+use Rattle.judge.proofs.judge.+judging.Given as goal
 
 abbrev pub decreases-judge : goal.decreases-judge
 decreases-judge l = 2 * (l.listing.now.expressions - l.at)

@@ -4,7 +4,7 @@ use Rattle.tables.specs.declared.listing.Form.TheVariants as Form
 use Rattle.store.specs.Building.{Builds}
 use Rattle.store.proofs.Refers.{refers, type_side, typed, wide_some, width_is}
 use Rattle.store.proofs.Steps.{step_num, step_dia, step_nil, step_cons, step_leaf, step_node, step_sum, step_pair, step_box}
-use Rattle.store.proofs.build.+build_build_cell_build_pair.Goals as goal
+use Rattle.store.proofs.build.+building.Goals as goal
 
 pub build-returns-in-Number : goal.build-returns-in-Number
 build-returns-in-Number g t c = record {

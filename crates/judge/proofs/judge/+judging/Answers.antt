@@ -17,7 +17,7 @@ use Rattle.judge.proofs.Passing.{code_narrow, row_narrow, inside, middle_is, end
 use Rattle.typing.proofs.Scoping.{scope_length}
 use Rattle.judge.proofs.Standing.{no_node, no_slots, short_at, bound_length, in_scope, stands_small, at_node, at_first, at_none, parts_first, parts_none, arms_first, arms_none, all_at, extent}
 use Rattle.judge.proofs.Verdicts.{parts_fault, early_fault, arms_fault, types_fault, sharing_fault, judged, first_fault, rest_fault, first_arm_fault, other_arm_fault, no_arms_judged}
-use Rattle.judge.proofs.judge.+judge_judge_arms_judge_parts.Goals as goal
+use Rattle.judge.proofs.judge.+judging.Goals as goal
 
 pub judge-offset_bounds-listing-at : goal.judge-offset_bounds-listing-at
 judge-offset_bounds-listing-at t c =

@@ -5,7 +5,7 @@ use Rattle.lfpl.specs.Typing.{type_at}
 use Rattle.tables.specs.declared.listing.Form.TheVariants as Form
 use Rattle.store.proofs.Handed.{hand_num, hand_dia, hand_nil, hand_none, hand_cons, hand_leaf, hand_node, hand_sum, hand_pair, hand_cell}
 use Rattle.store.proofs.Refers.{refers, type_side, typed, wide_some, width_is}
-use Rattle.store.proofs.walk.+walk_walk_cell_walk_pair.Goals as goal
+use Rattle.store.proofs.walk.+walking.Goals as goal
 
 pub walk-bounds-words-o : goal.walk-bounds-words-o
 walk-bounds-words-o g t c = omega (arith, wide_some c.args.entries.now c.requires.listed.0 c.requires.listed.1 c.args.t c.requires.known, c.requires.narrow)

@@ -1,5 +1,5 @@
 use Rattle.std.proofs.Common.{◌+◌, ◌-◌, ◌*◌, max, length}
-use Rattle.store.proofs.build.+build_build_cell_build_pair.Given as goal
+use Rattle.store.proofs.build.+building.Given as goal
 
 abbrev pub decreases-build : goal.decreases-build
 decreases-build g l = 512 * (length l.bytes.now - l.at) + (2 * l.t + 2)
