@@ -1,6 +1,6 @@
 #!/usr/bin/env bash
 # Times 10,000 adoptions of a table with 512 expressions, through the console: the same lines once as they are, and once with a first byte that is refused at
-# once, so that what is left is the adoption without the reading of the script. Run it after `rt check console`.
+# once, so that what is left is the adoption without the reading of the script. Run it after `rt run` in crates/console, which builds the program.
 set -eu
 cd "$(dirname "$0")/.."
 lines=${1:-10000}
@@ -17,7 +17,7 @@ least() {
     for _ in 1 2 3 4 5; do
         local from to
         from=$(date +%s%N)
-        target/bin/console < "$1" > "$work/out"
+        crates/console/out/console < "$1" > "$work/out"
         to=$(date +%s%N)
         echo $((to - from))
     done | sort -n | head -n 1

@@ -1,7 +1,8 @@
 #!/usr/bin/env bash
 # Compares the machine with other ways to run the same routines: C by the translation that LFPL was made for, and Lua, OCaml byte code and CPython in each one's own
 # idiom. Every program makes the same inputs of 500 entries and prints a checksum of what it gives, which must be that of bench/evaluate.py, an evaluator written
-# apart; the steps are that evaluator's too. Times are nanoseconds, the least mean of five rounds. Run it after `rt check machine_bench`.
+# apart; the steps are that evaluator's too. Times are nanoseconds, the least mean of five rounds. Run it after `rt run` in
+# crates/machine_bench, which builds the program.
 #
 #   bench/machine.sh [RUNS]       RUNS: how often the machine runs each routine in a round (200)
 set -eu
@@ -20,8 +21,8 @@ need lua5.4 "apt-get install lua5.4"
 need ocamlc "apt-get install ocaml-nox"
 need ocamlrun "apt-get install ocaml-nox"
 need python3 "apt-get install python3"
-if [ ! -x target/bin/machine_bench ]; then
-    echo "missing: target/bin/machine_bench (rt check machine_bench)" >&2
+if [ ! -x crates/machine_bench/out/machine_bench ]; then
+    echo "missing: crates/machine_bench/out/machine_bench (rt run in crates/machine_bench)" >&2
     missing=1
 fi
 [ "$missing" = 0 ] || exit 1
@@ -38,7 +39,7 @@ lua5.4 bench/baselines/routines.lua > "$work/lua.out"
 ocamlrun "$work/bytecode" > "$work/ocaml.out"
 python3 bench/baselines/routines.py > "$work/python.out"
 # the machine's: name, steps, nanoseconds of its steps and of a whole run, checksum of the result's bytes
-target/bin/machine_bench "$runs" > "$work/machine.out"
+crates/machine_bench/out/machine_bench "$runs" > "$work/machine.out"
 # the evaluator's: name, steps, height, words, checksum of the entries, checksum of the bytes
 PYTHONDONTWRITEBYTECODE=1 python3 bench/evaluate.py all > "$work/wanted.out"
 
