@@ -347,7 +347,7 @@ def check():
     assert table.write((7, (-1, ())), table.types[1]) == [1, 14, 1, 1, 0]
     # the tables that stand beside the texts, and those of the program, are what the texts say
     with open(os.path.join(HERE, "..", "crates", "routines", "src", "routine.rt"), encoding="utf-8") as source:
-        statics = dict(re.findall(r'static ([A-Z_]+): &\[u8; \d+\] = b"([^"]*)"', source.read()))
+        statics = dict(re.findall(r'static ([A-Z_]+): &\[u8; \d+\] =\s+b"([^"]*)"', source.read()))
     for routine in ROUTINES:
         with open(os.path.join(HERE, "routines", routine + ".lfpl"), encoding="utf-8") as source:
             table = assemble(source.read())
