@@ -9,7 +9,7 @@ use Rattle.code.specs.Standing.{Narrow, Sits, Encodes}
 use Rattle.code.specs.declared.Code.{Code}
 use Rattle.judge.proofs.Bodied.{held}
 use Rattle.judge.proofs.Standing.{extent, extent_all}
-use Rattle.judge.specs.Admitting.{start_of, Carries}
+use Rattle.judge.specs.Admitting.{start_of, Carries, Lays}
 use Rattle.judge.specs.Judging.{listed_nodes}
 use Rattle.judge.specs.Laying.{LaidAt, Laid, LaidAll, LaidArms}
 use Rattle.judge.specs.Notes.{note_at}
@@ -240,7 +240,7 @@ module _ (t : Table) (ts : List Ty) (fs : List Fun) (code : Code) (basis : Basis
 
 -- ---- programs
 
-module _ (t : Table) (p : Program) (code : Code) (c : Carries t p) (nodes_made : (n : ℕ) → n < 512 → Made t n (get_or code.nodes n no_node))
+module _ (t : Table) (p : Program) (code : Code) (c : Carries t p) (o : Lays t p) (nodes_made : (n : ℕ) → n < 512 → Made t n (get_or code.nodes n no_node))
     (starts_made : (f : ℕ) → f < 32 → get_or code.starts f 0 ≡ word_of (get_or t.starts f 0)) where
   abbrev fs : List Fun
   fs = p.functions
@@ -279,6 +279,6 @@ module _ (t : Table) (p : Program) (code : Code) (c : Carries t p) (nodes_made :
             (stood t p.types fs code H.basis made (λ g k. ap (λ (m : ℕ). get_or t.starts m 0) (number g k) ∙ begun g k) early (H.stands f h)
             (fun_at fs f).params (offsets 0 (fun_at fs f).params) (widths (fun_at fs f).params) (fun_at fs f).result
             (low_more (offsets 0 (fun_at fs f).params) (0 + widths (fun_at fs f).params) (widths (fun_at fs f).params) (omega arith) (low_offsets 0 (fun_at fs f).params))
-            (c.bodies.laid f h));
+            (o.laid f h));
         params = λ f h. params_narrow t.listing p.types H.basis.typed _ (fun_at fs f) (H.basis.signed f (record { params = []; arity = 0; result = 0 }) h);
       }

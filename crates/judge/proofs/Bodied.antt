@@ -1,6 +1,7 @@
 -- The bodies of a listing, one after another.
 use Rattle.std.proofs.Common.{◌≡◌, ℕ, zero, suc, ◌+◌, ◌-◌, ◌<◌, ◌≤◌, ◌⊎◌, List, [], ◌∷◌, map, length, get_or, take, drop, set, Ok, Err, Result, sym, refl, ap, ◌∙◌, subst, inl, inr, le_of_suc-le-suc, not-suc-le-zero, arith, length-take}
 use lib.ListN.{length-map}
+use Rattle.std.specs.Prelude.{IfOk}
 use Rattle.std.proofs.lemmas.List.{get_or-set_same, get_or-set_other, get_or-take, drop_more, drop_all}
 use Rattle.std.proofs.lemmas.Bool.{cases_lt}
 use Rattle.codec.specs.Reading.{done}
@@ -16,7 +17,7 @@ use Rattle.tables.specs.Read.{Reads}
 use Rattle.tables.specs.declared.listing.Listing.{Listing}
 use Rattle.tables.specs.declared.listing.Node.{Node}
 use Rattle.tables.specs.declared.listing.Signature.{Signature}
-use Rattle.judge.specs.Admitting.{start_of, Bodies, Admits, PosesBody, body_verdict, PassedBody, AnswersListing}
+use Rattle.judge.specs.Admitting.{start_of, Bodies, Admits, AdmitsLaid, LaidBodies, Lays, PosesBody, body_verdict, PassedBody, AnswersListing}
 use Rattle.judge.specs.Judging.{listed_nodes, counted}
 use Rattle.judge.specs.Laying.{LaidBody}
 use Rattle.judge.specs.Notes.{offsets, widths}
@@ -280,9 +281,14 @@ module _ (l : Listing) (p : Program) (h : Holds l p) (notes : List Note) (begins
         record {
           starts = λ i j. u.starts i (omega arith);
           noted = λ i j. laid_body p.types p.functions notes (fun_at p.functions i) (start_of p.functions i) (u.laid i (omega arith));
-          laid = λ i j. u.laid i (omega arith);
         },
       )
+
+  pub laid_all : length (part l) ≤ f → LaidBodies p.types p.functions notes
+  laid_all k =
+      let m = (held l p h).many in
+      let e = ap length (whole_part l) in
+      record { laid = λ i j. u.laid i (omega arith) }
 
 -- ---- admission
 
@@ -293,3 +299,10 @@ pub judged_admits : (bs : List ℕ) (p : Program) (q : ℕ) → scanned_table bs
 judged_admits bs p q e (Ok t) a = (p, ap admitted e ∙ ap (judged p) a.0, a.1)
 judged_admits bs p q e (Err f) a =
     ap admitted e ∙ ap (judged p) a.verdict ∙ ap (λ x. Err (record { refusal = f.refusal; place = f.place; part = x })) (sym a.part)
+
+pub judged_lays : (bs : List ℕ) (p : Program) (q : ℕ) → scanned_table bs ≡ done p q → (r : Result Table Fault) → AnswersListing p r → IfOk r (λ t. Lays t p) → AdmitsLaid bs r
+judged_lays bs p q e (Ok t) a l = λ p' h.
+    let s : admission bs ≡ Ok p = ap admitted e ∙ ap (judged p) a.0 in
+    let u : p ≡ p' = cc in
+    subst (λ (x : Program). Lays t x) u l
+judged_lays bs p q e (Err f) a l = tt

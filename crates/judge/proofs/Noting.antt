@@ -3,7 +3,8 @@ use Rattle.std.proofs.Common.{◌≡◌, ℕ, ◌+◌, ◌<◌, ◌≤◌, List,
 use Rattle.lfpl.specs.Syntax.{Ty, width, Head, Expr, Exprs, expr, end, ◌then◌, size, sizes, Fun}
 use Rattle.lfpl.specs.Typing.{rule}
 use Rattle.typing.specs.Codes.{Coded}
-use Rattle.judge.specs.Laying.{LaidAt, Laid, LaidAll, LaidArms, LaidBody}
+use Rattle.judge.specs.Judging.{ArmsNoted}
+use Rattle.judge.specs.Laying.{ArmsLaid, LaidAt, Laid, LaidAll, LaidArms, LaidBody}
 use Rattle.judge.specs.Notes.{note_at, offsets, widths, Noted, NotedAll, NotedArms, NotedBody}
 use Rattle.judge.specs.declared.table.Note.{Note}
 
@@ -93,3 +94,7 @@ module _ (ts : List Ty) (fs : List Fun) (notes : List Note) where
 
   pub laid_body : (f : Fun) (n : ℕ) → LaidBody ts fs notes f n → NotedBody ts fs notes f n
   laid_body f n t = laid_noted f.body n f.params (offsets 0 f.params) (widths f.params) f.result t
+
+  pub arms_laid_noted : (es : Exprs) (n : ℕ) (bs : List (List Ty)) (Γ : List Ty) (places : List ℕ) (over : ℕ) (Bs : List Ty) → ArmsLaid ts fs notes es n bs Γ places over Bs
+      → ArmsNoted ts fs notes es n bs Γ places over Bs
+  arms_laid_noted es n bs Γ places over Bs t = λ B h. laid_noted_arms es n bs Γ places over B (t B h)

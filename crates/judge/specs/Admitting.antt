@@ -26,7 +26,6 @@ start_of (g ∷ fs) (suc f) = size g.body + start_of fs f
 pub record Bodies (ts : List Ty) (fs : List Fun) (notes : List Note) (begins : List ℕ) : Type 0 where
   pub starts : (f : ℕ) → f < length fs → slice_index begins f ≡ start_of fs f
   pub noted : (f : ℕ) → f < length fs → NotedBody ts fs notes (fun_at fs f) (start_of fs f)
-  pub laid : (f : ℕ) → f < length fs → LaidBody ts fs notes (fun_at fs f) (start_of fs f)
 
 -- the table lists the program p, and its bodies are noted
 pub record Carries (t : Table) (p : Program) : Type 0 where
@@ -37,6 +36,19 @@ pub record Carries (t : Table) (p : Program) : Type 0 where
 abbrev pub Admits : List ℕ → Result Table Fault → Type 0
 Admits bs (Ok t) = (p : Program) × (admission bs ≡ Ok p) × Carries t p
 Admits bs (Err f) = admission bs ≡ Err f
+
+-- Beside it: each body is laid, so that every note tells the words that its expression stands over.
+pub record LaidBodies (ts : List Ty) (fs : List Fun) (notes : List Note) : Type 0 where
+  pub laid : (f : ℕ) → f < length fs → LaidBody ts fs notes (fun_at fs f) (start_of fs f)
+
+-- a table whose notes tell this of the bodies of the program p
+abbrev pub Lays : Table → Program → Type 0
+Lays t p = LaidBodies p.types p.functions t.notes
+
+-- what is answered for a table's bytes: a table lays the program that they are admitted as
+abbrev pub AdmitsLaid : List ℕ → Result Table Fault → Type 0
+AdmitsLaid bs (Ok t) = (p : Program) → admission bs ≡ Ok p → Lays t p
+AdmitsLaid bs (Err f) = Unit {0}
 
 -- ---- the judge of a listing
 

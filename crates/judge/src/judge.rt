@@ -1,10 +1,10 @@
-ghost use Rattle.std.specs.Prelude.{◌≡◌, ℕ, ◌+◌, ◌*◌, ◌<◌, ◌≤◌, not, ◌&&◌, List, map, length, replicate, ◌==◌, bit_and, bit_or, slice_index};
+ghost use Rattle.std.specs.Prelude.{IfOk, OnOk, ◌≡◌, ℕ, ◌+◌, ◌*◌, ◌<◌, ◌≤◌, not, ◌&&◌, List, map, length, replicate, ◌==◌, bit_and, bit_or, slice_index};
 ghost use Rattle.codec.specs.declared.fault.Part.TheVariants.{Judgement};
 ghost use Rattle.lfpl.specs.Judge.{exprs_verdict, arms_verdict};
 ghost use Rattle.lfpl.specs.Syntax.{Expr, Exprs, Fun, Program, Ty, var};
 ghost use Rattle.lfpl.specs.Typing.{alike, type_at};
 ghost use Rattle.tables.specs.Listed.{Holds, InRange, head_of};
-ghost use Rattle.judge.specs.Admitting.{AnswersBodies, AnswersBody, AnswersListing, PosedBody, PosesBody};
+ghost use Rattle.judge.specs.Admitting.{AnswersBodies, AnswersBody, AnswersListing, LaidBodies, Lays, PosedBody, PosesBody};
 ghost use Rattle.typing.specs.Codes.{Encodes, Typed, slot_types};
 ghost use Rattle.judge.specs.Judging.{Answers, AnswersAll, Poses, PosesAll, PosesArms, Posed, PosedAll, PosedArms, arms_from};
 ghost use Rattle.judge.specs.Laying.{ArmsLaid, LaidAll};
@@ -232,7 +232,8 @@ fn judge_bodies(listing: &Listing, notes: &mut [Note], starts: &mut [usize]) -> 
     requires notes { length notes.old ≡ 512 }
     requires starts { length starts.old ≡ 32 }
     requires holds { (p : Program) × Holds listing.now p }
-    ensures { (p : Program) → Holds listing.now p → AnswersBodies p notes.new starts.new result }
+    ensures answers { (p : Program) → Holds listing.now p → AnswersBodies p notes.new starts.new result }
+    ensures laid { (p : Program) → Holds listing.now p → OnOk result (LaidBodies p.types p.functions notes.new) }
 {
     let signatures = &listing.signatures[0..listing.functions];
     let mut at = 0;
@@ -247,7 +248,8 @@ fn judge_bodies(listing: &Listing, notes: &mut [Note], starts: &mut [usize]) -> 
 // Judges a table that was read.
 pub(crate) fn judge_listing(listing: Listing) -> Result<Table, Fault>
     requires { (p : Program) × Holds listing p }
-    ensures { (p : Program) → Holds listing p → AnswersListing p result }
+    ensures answers { (p : Program) → Holds listing p → AnswersListing p result }
+    ensures laid { (p : Program) → Holds listing p → IfOk result (λ t. Lays t p) }
 {
     let mut notes = [Note {
         code: 0,

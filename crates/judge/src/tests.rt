@@ -31,21 +31,17 @@ fn reverse_is_admitted(rt: HostRuntime) -> Result<(), Fail> {
     }
 }
 
-// The helper's body stands over its two lists, and its second arm also over a diamond, an element and a tail.
+// The helper's body stands over its two lists. Its second arm binds a diamond, an element and a tail, so it stands over five words; the cons in it over six, since a
+// list stands before it, and the last part of the cons over two more.
 #[test]
-fn bodies_stand_over_their_words(rt: HostRuntime) -> Result<(), Fail> {
+fn bodies_stand_over_their_words(rt: HostRuntime) {
     let bytes =
         b"\x02\x00\x02\x00\x02\x02\x01\x01\x01\x01\x01\x01\x0c\x00\x00\x00\x01\x01\x00\x00\x04\x0b\x00\x02\x00\x03\x00\x01\x01\x00\x00\x00\x0a\x01";
-    match admit(bytes) {
-        Ok(table) => {
-            assert_eq!(rt; table.note(0).over, 2);
-            Ok(())
-        },
-        Err(_) => {
-            assert_eq!(rt; 0, 1);
-            Ok(())
-        },
-    }
+    let overs = match admit(bytes) {
+        Ok(table) => [0, 3, 5, 8].map(|at| table.note(at).over),
+        Err(_) => [0; 4],
+    };
+    assert_eq!(rt; overs, [2, 5, 6, 8]);
 }
 
 // A list used twice in a pair; a number may be.
