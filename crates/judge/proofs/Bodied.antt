@@ -233,8 +233,8 @@ module _ (l : Listing) (p : Program) (h : Holds l p) (notes : List Note) (begins
         ∙ then_faulty (judge p.functions (fun_at p.functions f).body n (fun_at p.functions f).params) _ _ w i e
 
     pub upto_more : (notes' : List Note) (m : ℕ) → length notes' ≡ length notes → length begins ≡ 32
-        → PassedBody p.types p.functions (fun_at p.functions f) n (start_of p.functions (f + 1)) notes notes' m → Upto p notes' (set begins f n) (f + 1) m
-    upto_more notes' m long full b =
+        → PassedBody p.types p.functions (fun_at p.functions f) n (start_of p.functions (f + 1)) notes notes' m → LaidBody p.types p.functions notes' (fun_at p.functions f) n → Upto p notes' (set begins f n) (f + 1) m
+    upto_more notes' m long full b d =
         let e = start_more p.functions f within in
         let o = u.here in
         let q : n + size (fun_at p.functions f).body ≡ m = omega (arith, b.ends) in
@@ -271,7 +271,7 @@ module _ (l : Listing) (p : Program) (h : Holds l p) (notes : List Note) (begins
         laid_at i (inr j) g =
             let z : f ≡ i = omega arith in
             subst (λ (x : ℕ). LaidBody p.types p.functions notes' (fun_at p.functions x) (start_of p.functions x)) z
-            (subst (LaidBody p.types p.functions notes' (fun_at p.functions f)) u.here b.laid)
+            (subst (LaidBody p.types p.functions notes' (fun_at p.functions f)) u.here d)
 
   pub upto_all : length (part l) ≤ f → (program_verdict p ≡ fine tt) × Bodies p.types p.functions notes begins
   upto_all k =

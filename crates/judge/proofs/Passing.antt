@@ -204,6 +204,38 @@ module _ (l : Listing) (s : Scope) (n : ℕ) (ts : List Ty) (fs : List Fun) (Γ 
             go (inl h) = subst (Coded ts c) (sym ((says As).whole (type_at Bs 0) h)) (f h)
             go (inr h) = let k : 1 ≤ r.arms = omega arith in subst (Coded ts c) (sym ((says As).chosen (type_at Bs 0) k)) (g k)
 
+-- an expression that passes and is laid
+pub record Whole (ts : List Ty) (fs : List Fun) (Γ : List Ty) (ps : List ℕ) (over n : ℕ) (e : Expr) (j : ℕ) (notes notes' : List Note) (r : Found) : Type 0 where
+  pub passed : Passed ts fs Γ ps over n e j notes notes' r
+  pub laid : Laid ts fs notes' e n Γ ps over passed.type
+
+-- a verdict has one value
+pub same_fine : {X : Type 0} {v : Verdict X} {x y : X} → v ≡ fine x → v ≡ fine y → x ≡ y
+same_fine p q = cc
+
+pub whole_laid : {ts : List Ty} {fs : List Fun} {Γ : List Ty} {ps : List ℕ} {over n : ℕ} {e : Expr} {j : ℕ} {notes notes' : List Note} {r : Found}
+    → (X : Whole ts fs Γ ps over n e j notes notes' r) → (A : Ty) → judge fs e n Γ ≡ fine A → Laid ts fs notes' e n Γ ps over A
+whole_laid {ts} {fs} {Γ} {ps} {over} {n} {e} {j} {notes} {notes'} X A h = subst (λ (B : Ty). Laid ts fs notes' e n Γ ps over B) (same_fine X.passed.typed h) X.laid
+
+-- several that pass: what is said of their types may be another thing, if it follows, or if it holds of the types that are found
+pub holding : {ts before : List Ty} {v : Verdict (List Ty)} {es : Exprs} {n j : ℕ} {H K : List Ty → Type 0} {notes notes' : List Note} {r : Several}
+    → (R : PassedAll ts before v es n j H notes notes' r) → K R.types → PassedAll ts before v es n j K notes notes' r
+holding R k = record {
+  types = R.types;
+  typed = R.typed;
+  row = R.row;
+  occur = R.occur;
+  again = R.again;
+  ends = R.ends;
+  many = R.many;
+  noted = k;
+  earlier = R.earlier;
+}
+
+pub held_laid : {ts before : List Ty} {v : Verdict (List Ty)} {es : Exprs} {n j : ℕ} {H : List Ty → Type 0} {notes notes' : List Note} {r : Several}
+    → (R : PassedAll ts before v es n j H notes notes' r) → (As : List Ty) → v ≡ fine As → H As
+held_laid {H = H} R As h = subst H (same_fine R.typed h) R.noted
+
 -- everything is settled: the note is written, and the expression passes
 pub passes : (ts : List Ty) (fs : List Fun) (Γ : List Ty) (ps : List ℕ) (over n j m : ℕ) (e : Expr) (h : Head) (es qs : Exprs) → e ≡ expr h es qs → m ≡ n + 1 + sizes es → j ≡ m + sizes qs
     → (As Bs : List Ty) (bs : List (List Ty)) (notes notes₁ notes₂ : List Note) → (rule fs Γ h As).arms ≡ bs → length notes₁ ≡ length notes₂ → n < length notes₂
@@ -211,17 +243,19 @@ pub passes : (ts : List Ty) (fs : List Fun) (Γ : List Ty) (ps : List ℕ) (over
     → fits (rule fs Γ h As) As ≡ true → alike (type_at Bs 0) Bs ≡ true → shares 0 Γ es qs ≡ false
     → judge fs e n Γ ≡ fine ((rule fs Γ h As).whole (type_at Bs 0))
     → (c o p mp mq : ℕ) → Coded ts c ((rule fs Γ h As).whole (type_at Bs 0)) → o ≡ head_mask h → mp ≡ masks es → mq ≡ masks qs → ((i : ℕ) → h ≡ var i → p ≡ get_or ps i 0)
-    → (k : ℕ) → k ≡ j → over ≤ 49152 → Passed ts fs Γ ps over n e j notes (set notes₂ n (record { code = c; end = k; place = p; over = over })) (record { code = c; mask = bit_or o (bit_or mp mq); end = k })
+    → (k : ℕ) → k ≡ j → over ≤ 49152 → Whole ts fs Γ ps over n e j notes (set notes₂ n (record { code = c; end = k; place = p; over = over })) (record { code = c; mask = bit_or o (bit_or mp mq); end = k })
 passes ts fs Γ ps over n j m e h es qs is at_m at_j As Bs bs notes notes₁ notes₂ agree long inside all before arms before₂ fit same apart verdict c o p mp mq code own mps mqs place k ends low =
     record {
-      type = (rule fs Γ h As).whole (type_at Bs 0);
-      typed = verdict;
-      code = code;
-      occur = ap₂ bit_or own (ap₂ bit_or mps mqs) ∙ ap mask (sym is);
-      ends = ends;
-      noted = laid_noted ts fs notes₃ e n Γ ps over ((rule fs Γ h As).whole (type_at Bs 0)) laid;
+      passed = record {
+        type = (rule fs Γ h As).whole (type_at Bs 0);
+        typed = verdict;
+        code = code;
+        occur = ap₂ bit_or own (ap₂ bit_or mps mqs) ∙ ap mask (sym is);
+        ends = ends;
+        noted = laid_noted ts fs notes₃ e n Γ ps over ((rule fs Γ h As).whole (type_at Bs 0)) laid;
+        earlier = λ i d l. other i d (omega arith) ∙ before₂ i d (omega arith) ∙ before i d (omega arith);
+      };
       laid = laid;
-      earlier = λ i d l. other i d (omega arith) ∙ before₂ i d (omega arith) ∙ before i d (omega arith);
     }
   where
     note : Note
@@ -309,54 +343,54 @@ none_pass ts before v es n j Holding notes r is at typed holding row m t e = rec
 module _ (ts : List Ty) (fs : List Fun) (Γ : List Ty) (ps : List ℕ) (before : List Ty) (n k j over : ℕ) (e : Expr) (rest es : Exprs) (notes notes₁ notes₂ : List Note) (f : Found) (r : Several)
     (is : es ≡ e then rest) (ends : k ≡ n + size e) (long : length notes₁ ≡ length notes₂) where
   -- the first of several parts, and then the rest
-  pub parts_pass : (over' : ℕ) (P : Passed ts fs Γ ps over n e k notes notes₁ f) → over' ≡ over + width P.type
-      → PassedAll ts (before ++ P.type ∷ []) (exprs_verdict fs rest f.end Γ) rest f.end j (λ As. LaidAll ts fs notes₂ rest f.end Γ ps over' As) notes₁ notes₂ r
+  pub parts_pass : (over' : ℕ) (P : Whole ts fs Γ ps over n e k notes notes₁ f) → over' ≡ over + width P.passed.type
+      → PassedAll ts (before ++ P.passed.type ∷ []) (exprs_verdict fs rest f.end Γ) rest f.end j (λ As. LaidAll ts fs notes₂ rest f.end Γ ps over' As) notes₁ notes₂ r
       → PassedAll ts before (exprs_verdict fs es n Γ) es n j (λ As. LaidAll ts fs notes₂ es n Γ ps over As) notes notes₂
       (record { row = r.row; mask = bit_or f.mask r.mask; twice = bit_or (bit_and f.mask r.mask) r.twice; end = r.end })
   parts_pass over' P o R =
-      let q : f.end ≡ n + size e = P.ends ∙ ends in
+      let q : f.end ≡ n + size e = P.passed.ends ∙ ends in
       record {
-        types = P.type ∷ R.types;
-        typed = all_judged fs Γ n f.end e rest es is q P.type R.types P.typed R.typed;
-        row = subst (Encodes ts r.row) (regroup before P.type R.types) R.row;
-        occur = both_masks f.mask r.mask e rest es is P.occur R.occur;
-        again = both_twice f.mask r.mask r.twice e rest es is P.occur R.occur R.again;
+        types = P.passed.type ∷ R.types;
+        typed = all_judged fs Γ n f.end e rest es is q P.passed.type R.types P.passed.typed R.typed;
+        row = subst (Encodes ts r.row) (regroup before P.passed.type R.types) R.row;
+        occur = both_masks f.mask r.mask e rest es is P.passed.occur R.occur;
+        again = both_twice f.mask r.mask r.twice e rest es is P.passed.occur R.occur R.again;
         ends = R.ends;
         many = (let m = R.many in let z : suc (length R.types) ≡ 1 + counted rest = omega arith in z) ∙ ap counted (sym is);
-        noted = subst (λ (x : Exprs). LaidAll ts fs notes₂ x n Γ ps over (P.type ∷ R.types)) (sym is) (
-          kept ts fs notes₁ notes₂ (omega arith) e n Γ ps over P.type (λ i d l u. R.earlier i d (omega arith)) P.laid,
-          subst (λ (x : ℕ). LaidAll ts fs notes₂ rest x Γ ps (over + width P.type) R.types) q
+        noted = subst (λ (x : Exprs). LaidAll ts fs notes₂ x n Γ ps over (P.passed.type ∷ R.types)) (sym is) (
+          kept ts fs notes₁ notes₂ (omega arith) e n Γ ps over P.passed.type (λ i d l u. R.earlier i d (omega arith)) P.laid,
+          subst (λ (x : ℕ). LaidAll ts fs notes₂ rest x Γ ps (over + width P.passed.type) R.types) q
               (subst (λ (x : ℕ). LaidAll ts fs notes₂ rest f.end Γ ps x R.types) o R.noted),
         );
-        earlier = λ i d l. R.earlier i d (omega arith) ∙ P.earlier i d l;
+        earlier = λ i d l. R.earlier i d (omega arith) ∙ P.passed.earlier i d l;
       }
 
   -- the first of several arms, which binds variables of the types b, and then the rest
   pub arms_pass : (w over' : ℕ) (b : List Ty) (bs bss : List (List Ty)) → bss ≡ b ∷ bs → over' ≡ over + widths b
-      → (P : Passed ts fs (Γ ++ b) (ps ++ offsets over b) over' n e k notes notes₁ f)
-      → PassedAll ts (before ++ P.type ∷ []) (arms_verdict fs rest bs w f.end Γ) rest f.end j (ArmsLaid ts fs notes₂ rest f.end bs Γ ps over) notes₁ notes₂ r
+      → (P : Whole ts fs (Γ ++ b) (ps ++ offsets over b) over' n e k notes notes₁ f)
+      → PassedAll ts (before ++ P.passed.type ∷ []) (arms_verdict fs rest bs w f.end Γ) rest f.end j (ArmsLaid ts fs notes₂ rest f.end bs Γ ps over) notes₁ notes₂ r
       → PassedAll ts before (arms_verdict fs es bss w n Γ) es n j (ArmsLaid ts fs notes₂ es n bss Γ ps over) notes notes₂
       (record { row = r.row; mask = bit_or f.mask r.mask; twice = bit_or (bit_and f.mask r.mask) r.twice; end = r.end })
   arms_pass w over' b bs bss binds o P R =
-      let q : f.end ≡ n + size e = P.ends ∙ ends in
+      let q : f.end ≡ n + size e = P.passed.ends ∙ ends in
       record {
-        types = P.type ∷ R.types;
-        typed = arms_judged fs Γ w n f.end e rest es b bs bss is binds q P.type R.types P.typed R.typed;
-        row = subst (Encodes ts r.row) (regroup before P.type R.types) R.row;
-        occur = both_masks f.mask r.mask e rest es is P.occur R.occur;
-        again = both_twice f.mask r.mask r.twice e rest es is P.occur R.occur R.again;
+        types = P.passed.type ∷ R.types;
+        typed = arms_judged fs Γ w n f.end e rest es b bs bss is binds q P.passed.type R.types P.passed.typed R.typed;
+        row = subst (Encodes ts r.row) (regroup before P.passed.type R.types) R.row;
+        occur = both_masks f.mask r.mask e rest es is P.passed.occur R.occur;
+        again = both_twice f.mask r.mask r.twice e rest es is P.passed.occur R.occur R.again;
         ends = R.ends;
         many = (let m = R.many in let z : suc (length R.types) ≡ 1 + counted rest = omega arith in z) ∙ ap counted (sym is);
         noted = λ B same.
-            let t = and_parts (same_ty B P.type) (alike B R.types) same in
+            let t = and_parts (same_ty B P.passed.type) (alike B R.types) same in
             subst (λ (x : Exprs). LaidArms ts fs notes₂ x n bss Γ ps over B) (sym is)
             (subst (λ (x : List (List Ty)). LaidArms ts fs notes₂ (e then rest) n x Γ ps over B) (sym binds) (
-              subst (λ (X : Ty). Laid ts fs notes₂ e n (Γ ++ b) (ps ++ offsets over b) (over + widths b) X) (sym (same_eq B P.type t.0))
-                  (subst (λ (x : ℕ). Laid ts fs notes₂ e n (Γ ++ b) (ps ++ offsets over b) x P.type) o
-                  (kept ts fs notes₁ notes₂ (omega arith) e n (Γ ++ b) (ps ++ offsets over b) over' P.type (λ i d l u. R.earlier i d (omega arith)) P.laid)),
+              subst (λ (X : Ty). Laid ts fs notes₂ e n (Γ ++ b) (ps ++ offsets over b) (over + widths b) X) (sym (same_eq B P.passed.type t.0))
+                  (subst (λ (x : ℕ). Laid ts fs notes₂ e n (Γ ++ b) (ps ++ offsets over b) x P.passed.type) o
+                  (kept ts fs notes₁ notes₂ (omega arith) e n (Γ ++ b) (ps ++ offsets over b) over' P.passed.type (λ i d l u. R.earlier i d (omega arith)) P.laid)),
               subst (λ (x : ℕ). LaidArms ts fs notes₂ rest x bs Γ ps over B) q (R.noted B t.1),
             ));
-        earlier = λ i d l. R.earlier i d (omega arith) ∙ P.earlier i d l;
+        earlier = λ i d l. R.earlier i d (omega arith) ∙ P.passed.earlier i d l;
       }
 
 -- a body over its parameters

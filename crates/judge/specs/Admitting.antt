@@ -73,7 +73,6 @@ pub record PassedBody (ts : List Ty) (fs : List Fun) (g : Fun) (n j : ℕ) (note
   pub typed : body_verdict fs g n ≡ fine tt
   pub ends : k ≡ j
   pub noted : NotedBody ts fs notes' g n
-  pub laid : LaidBody ts fs notes' g n
   pub earlier : Earlier n notes notes'
 
 abbrev pub AnswersBody : List Ty → List Fun → Fun → ℕ → ℕ → List Note → List Note → Result ℕ Fault → Type 0

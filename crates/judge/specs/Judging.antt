@@ -9,7 +9,6 @@ use Rattle.tables.specs.Listed.{Stands, AllStand}
 use Rattle.tables.specs.declared.listing.Listing.{Listing}
 use Rattle.tables.specs.declared.listing.Node.{Node}
 use Rattle.typing.specs.Codes.{Coded, Encodes}
-use Rattle.judge.specs.Laying.{Laid}
 use Rattle.judge.specs.Notes.{Noted, NotedArms}
 use Rattle.typing.specs.Rules.{Basis, AllShort, names_of}
 use Rattle.typing.specs.Scopes.{Scopes, mask, masks, twice}
@@ -97,7 +96,6 @@ pub record Passed (ts : List Ty) (fs : List Fun) (Γ : List Ty) (ps : List ℕ) 
   pub occur : r.mask ≡ mask e
   pub ends : r.end ≡ j
   pub noted : Noted ts fs notes' e n Γ ps over type
-  pub laid : Laid ts fs notes' e n Γ ps over type
   pub earlier : Earlier n notes notes'
 
 abbrev pub Answers : List Ty → List Fun → List Ty → List ℕ → ℕ → ℕ → Expr → ℕ → List Note → List Note → Result Found Fault → Type 0

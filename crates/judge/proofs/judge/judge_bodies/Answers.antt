@@ -26,7 +26,7 @@ returns-in_err-end c =
     rw (r.1, r.2) (record {
       answers = λ p h.
           faulted_by
-          (c.in_err-end.ensures p.types p.functions (fun_at p.functions c.loop-f.f) (start_of p.functions (c.loop-f.f + 1))
+          (c.in_err-end.ensures.answers p.types p.functions (fun_at p.functions c.loop-f.f) (start_of p.functions (c.loop-f.f + 1))
           (body_posed c.args.listing.now p h c.loop-f.notes c.loop-f.starts c.loop-f.f c.loop-f.at (c.loop-f.invariant p h) c.loop-f-test.true))
           (body_fault c.args.listing.now p h c.loop-f.notes c.loop-f.starts c.loop-f.f c.loop-f.at (c.loop-f.invariant p h) c.loop-f-test.true);
       laid = λ p h. tt;
@@ -38,7 +38,9 @@ loop-f-preserved c p h =
     let t = c.requires.starts in
     upto_more c.args.listing.now p h c.loop-f.notes c.loop-f.starts c.loop-f.f c.loop-f.at (c.loop-f.invariant p h) c.loop-f-test.true
     c.judge_body.new.notes c.in_ok-end.end c.judge_body.auto.notes (omega arith)
-    (c.in_ok-end.ensures p.types p.functions (fun_at p.functions c.loop-f.f) (start_of p.functions (c.loop-f.f + 1))
+    (c.in_ok-end.ensures.answers p.types p.functions (fun_at p.functions c.loop-f.f) (start_of p.functions (c.loop-f.f + 1))
+    (body_posed c.args.listing.now p h c.loop-f.notes c.loop-f.starts c.loop-f.f c.loop-f.at (c.loop-f.invariant p h) c.loop-f-test.true))
+    (c.in_ok-end.ensures.laid p.types p.functions (fun_at p.functions c.loop-f.f) (start_of p.functions (c.loop-f.f + 1))
     (body_posed c.args.listing.now p h c.loop-f.notes c.loop-f.starts c.loop-f.f c.loop-f.at (c.loop-f.invariant p h) c.loop-f-test.true))
 
 pub returns : goal.returns
