@@ -9,9 +9,9 @@ use Rattle.code.specs.Standing.{Narrow, Sits, Encodes}
 use Rattle.code.specs.declared.Code.{Code}
 use Rattle.judge.proofs.Bodied.{held}
 use Rattle.judge.proofs.Standing.{extent, extent_all}
-use Rattle.judge.specs.Admitting.{start_of, Carries, Lays}
+use Rattle.judge.specs.Admitting.{start_of, Carries, TellsOver}
 use Rattle.judge.specs.Judging.{listed_nodes}
-use Rattle.judge.specs.Laying.{LaidAt, Laid, LaidAll, LaidArms}
+use Rattle.judge.specs.Over.{NotedOverAt, NotedOver, NotedOverAll, NotedOverArms}
 use Rattle.judge.specs.Notes.{note_at}
 use Rattle.judge.specs.declared.table.Note.{Note}
 use Rattle.judge.specs.declared.table.Table.{Table}
@@ -97,7 +97,7 @@ module _ (t : Table) (ts : List Ty) (fs : List Fun) (code : Code) (basis : Basis
   few_params f h = (params_narrow t.listing ts basis.typed _ (fun_at fs f) (basis.signed f (record { params = []; arity = 0; result = 0 }) h)).0
 
   -- the types of parts that are noted
-  parts_narrow : (es : Exprs) (n : ℕ) (Γ : List Ty) (ps : List ℕ) (over : ℕ) (As : List Ty) → LaidAll ts fs notes es n Γ ps over As → AllByRecursion Narrow As
+  parts_narrow : (es : Exprs) (n : ℕ) (Γ : List Ty) (ps : List ℕ) (over : ℕ) (As : List Ty) → NotedOverAll ts fs notes es n Γ ps over As → AllByRecursion Narrow As
   parts_narrow end n Γ ps over [] d = tt
   parts_narrow end n Γ ps over (A ∷ As) d = absurd d
   parts_narrow (e then es) n Γ ps over [] d = absurd d
@@ -105,7 +105,7 @@ module _ (t : Table) (ts : List Ty) (fs : List Fun) (code : Code) (basis : Basis
       (coded_narrow t.listing ts basis.typed _ A d.0.2.noted.code, parts_narrow rest (n + size (expr h es qs)) Γ ps (over + width A) As d.1)
 
   -- the one part of a choice
-  one_noted : (es : Exprs) (n : ℕ) (Γ : List Ty) (ps : List ℕ) (over : ℕ) (As : List Ty) → length As ≡ 1 → LaidAll ts fs notes es n Γ ps over As
+  one_noted : (es : Exprs) (n : ℕ) (Γ : List Ty) (ps : List ℕ) (over : ℕ) (As : List Ty) → length As ≡ 1 → NotedOverAll ts fs notes es n Γ ps over As
       → Coded ts (note_at notes n).code (type_at As 0) × ((note_at notes n).end ≡ n + sizes es) × (0 < sizes es)
   one_noted end n Γ ps over [] l d = absurd (omega arith)
   one_noted end n Γ ps over (A ∷ As) l d = absurd d
@@ -116,15 +116,15 @@ module _ (t : Table) (ts : List Ty) (fs : List Fun) (code : Code) (basis : Basis
   one_noted (expr h es qs then f then rest) n Γ ps over (A ∷ X ∷ As) l d = absurd (omega arith)
 
   -- no arms
-  none_noted : (qs : Exprs) (n : ℕ) (bs : List (List Ty)) (Γ : List Ty) (ps : List ℕ) (over : ℕ) (B : Ty) → bs ≡ [] → LaidArms ts fs notes qs n bs Γ ps over B → sizes qs ≡ 0
+  none_noted : (qs : Exprs) (n : ℕ) (bs : List (List Ty)) (Γ : List Ty) (ps : List ℕ) (over : ℕ) (B : Ty) → bs ≡ [] → NotedOverArms ts fs notes qs n bs Γ ps over B → sizes qs ≡ 0
   none_noted end n bs Γ ps over B e d = refl
   none_noted (q then qs) n [] Γ ps over B e d = absurd d
   none_noted (q then qs) n (b ∷ bs) Γ ps over B e d = absurd (let z : ◌≡◌ {A = ℕ} 0 1 = cc in omega arith)
 
   module _ (n : ℕ) (x : L.Node) (es qs : Exprs) (Γ : List Ty) (ps : List ℕ) (over : ℕ) (As : List Ty) (B W : Ty) (listed : x ≡ listed_at t n)
       (fit_in : n + size (expr (head_of ts x) es qs) ≤ length nodes) (low : Low ps over)
-      (at : LaidAt ts fs notes n (head_of ts x) es qs Γ ps over As B W) (all : LaidAll ts fs notes es (n + 1) Γ ps over As)
-      (arms : LaidArms ts fs notes qs (n + 1 + sizes es) (rule fs Γ (head_of ts x) As).arms Γ ps over B) where
+      (at : NotedOverAt ts fs notes n (head_of ts x) es qs Γ ps over As B W) (all : NotedOverAll ts fs notes es (n + 1) Γ ps over As)
+      (arms : NotedOverArms ts fs notes qs (n + 1 + sizes es) (rule fs Γ (head_of ts x) As).arms Γ ps over B) where
     inside : n < 512
     inside = let m = few_nodes in omega arith
 
@@ -195,7 +195,7 @@ module _ (t : Table) (ts : List Ty) (fs : List Fun) (code : Code) (basis : Basis
   mutual
     -- an expression that stands in the listing and is noted stands in the code
     pub stood : {m n j : ℕ} {e : Expr} → Stands (names_of ts fs) nodes m n e j → (Γ : List Ty) (ps : List ℕ) (over : ℕ) (W : Ty) → Low ps over
-        → Laid ts fs notes e n Γ ps over W → standing.Stands fs code e n Γ ps over W
+        → NotedOver ts fs notes e n Γ ps over W → standing.Stands fs code e n Γ ps over W
     stood (stands m n j k x es qs inside at small range s q) Γ ps over W low d =
         let l = listed_is n x inside at in
         let p = extent_all (names_of ts fs) nodes s in
@@ -209,11 +209,11 @@ module _ (t : Table) (ts : List Ty) (fs : List Fun) (code : Code) (basis : Basis
           stood_all s Γ ps over d.0 low d.3,
           subst (λ (y : ℕ). standing.StandsArms fs code qs y (rule fs Γ (head_of ts x) d.0).arms Γ ps over d.1) p.0
               (stood_arms q (rule fs Γ (head_of ts x) d.0).arms Γ ps over d.1 low
-              (subst (λ (y : ℕ). LaidArms ts fs notes qs y (rule fs Γ (head_of ts x) d.0).arms Γ ps over d.1) (sym p.0) d.4)),
+              (subst (λ (y : ℕ). NotedOverArms ts fs notes qs y (rule fs Γ (head_of ts x) d.0).arms Γ ps over d.1) (sym p.0) d.4)),
         )
 
     stood_all : {scopes : List ℕ} {n j : ℕ} {es : Exprs} → AllStand (names_of ts fs) nodes scopes n es j → (Γ : List Ty) (ps : List ℕ) (over : ℕ) (As : List Ty) → Low ps over
-        → LaidAll ts fs notes es n Γ ps over As → standing.StandsAll fs code es n Γ ps over As
+        → NotedOverAll ts fs notes es n Γ ps over As → standing.StandsAll fs code es n Γ ps over As
     stood_all (all_end n h) Γ ps over [] low d = tt
     stood_all (all_end n h) Γ ps over (A ∷ As) low d = absurd d
     stood_all (all_more m scopes n j k e es s q) Γ ps over [] low d = absurd d
@@ -222,11 +222,11 @@ module _ (t : Table) (ts : List Ty) (fs : List Fun) (code : Code) (basis : Basis
           stood s Γ ps over A low d.0,
           subst (λ (y : ℕ). standing.StandsAll fs code es y Γ ps (over + width A) As) p.0
               (stood_all q Γ ps (over + width A) As (low_more ps over (over + width A) (omega arith) low)
-              (subst (λ (y : ℕ). LaidAll ts fs notes es y Γ ps (over + width A) As) (sym p.0) d.1)),
+              (subst (λ (y : ℕ). NotedOverAll ts fs notes es y Γ ps (over + width A) As) (sym p.0) d.1)),
         )
 
     stood_arms : {scopes : List ℕ} {n j : ℕ} {qs : Exprs} → AllStand (names_of ts fs) nodes scopes n qs j → (bs : List (List Ty)) (Γ : List Ty) (ps : List ℕ) (over : ℕ) (B : Ty) → Low ps over
-        → LaidArms ts fs notes qs n bs Γ ps over B → standing.StandsArms fs code qs n bs Γ ps over B
+        → NotedOverArms ts fs notes qs n bs Γ ps over B → standing.StandsArms fs code qs n bs Γ ps over B
     stood_arms (all_end n h) [] Γ ps over B low d = tt
     stood_arms (all_end n h) (b ∷ bs) Γ ps over B low d = absurd d
     stood_arms (all_more m scopes n j k e es s q) [] Γ ps over B low d = absurd d
@@ -235,12 +235,12 @@ module _ (t : Table) (ts : List Ty) (fs : List Fun) (code : Code) (basis : Basis
         let l = low_append ps (offsets over b) (over + widths b) (low_more ps over (over + widths b) (omega arith) low) (low_offsets over b) in (
           stood s (Γ ++ b) (ps ++ offsets over b) (over + widths b) B l d.0,
           subst (λ (y : ℕ). standing.StandsArms fs code es y bs Γ ps over B) p.0
-              (stood_arms q bs Γ ps over B low (subst (λ (y : ℕ). LaidArms ts fs notes es y bs Γ ps over B) (sym p.0) d.1)),
+              (stood_arms q bs Γ ps over B low (subst (λ (y : ℕ). NotedOverArms ts fs notes es y bs Γ ps over B) (sym p.0) d.1)),
         )
 
 -- ---- programs
 
-module _ (t : Table) (p : Program) (code : Code) (c : Carries t p) (o : Lays t p) (nodes_made : (n : ℕ) → n < 512 → Made t n (get_or code.nodes n no_node))
+module _ (t : Table) (p : Program) (code : Code) (c : Carries t p) (o : TellsOver t p) (nodes_made : (n : ℕ) → n < 512 → Made t n (get_or code.nodes n no_node))
     (starts_made : (f : ℕ) → f < 32 → get_or code.starts f 0 ≡ word_of (get_or t.starts f 0)) where
   abbrev fs : List Fun
   fs = p.functions
@@ -279,6 +279,6 @@ module _ (t : Table) (p : Program) (code : Code) (c : Carries t p) (o : Lays t p
             (stood t p.types fs code H.basis made (λ g k. ap (λ (m : ℕ). get_or t.starts m 0) (number g k) ∙ begun g k) early (H.stands f h)
             (fun_at fs f).params (offsets 0 (fun_at fs f).params) (widths (fun_at fs f).params) (fun_at fs f).result
             (low_more (offsets 0 (fun_at fs f).params) (0 + widths (fun_at fs f).params) (widths (fun_at fs f).params) (omega arith) (low_offsets 0 (fun_at fs f).params))
-            (o.laid f h));
+            (o.words f h));
         params = λ f h. params_narrow t.listing p.types H.basis.typed _ (fun_at fs f) (H.basis.signed f (record { params = []; arity = 0; result = 0 }) h);
       }

@@ -9,7 +9,7 @@ ghost use Rattle.std.proofs.Common.{of_z};
 ghost use Rattle.code.specs.Nodes.{no_node};
 ghost use Rattle.code.specs.Standing.{Encodes, code_infix};
 ghost use Rattle.codec.specs.Integer.{unzigzag as unzigzagged};
-ghost use Rattle.judge.specs.Admitting.{Carries, Lays};
+ghost use Rattle.judge.specs.Admitting.{Carries, TellsOver};
 ghost use Rattle.lfpl.specs.Reading.{operations};
 ghost use Rattle.lfpl.specs.Syntax.{Program, Ty, plus, width};
 ghost use Rattle.meaning.specs.Act.{wrap};
@@ -186,7 +186,7 @@ fn starts_of(table: &Table) -> [u32; 32]
 
 /// Makes code of an admitted table.
 pub fn assemble(table: &Table) -> Code
-    ensures { (p : Program) → Carries table.now p → Lays table.now p → Encodes result p }
+    ensures { (p : Program) → Carries table.now p → TellsOver table.now p → Encodes result p }
 {
     Code {
         nodes: nodes_of(table),

@@ -14,7 +14,9 @@ pub struct Cursor<'a> {
 impl<'a> Cursor<'a> {
     // A cursor at the first of the bytes.
     pub fn new(bytes: &'a [u8], part: Part) -> Self
-        ensures { (result.bytes.now ≡ bytes.now) × ((result.at ≡ 0) × (result.part ≡ part)) }
+        ensures bytes { result.bytes.now ≡ bytes.now }
+        ensures place { result.at ≡ 0 }
+        ensures part { result.part ≡ part }
     {
         Cursor { bytes, at: 0, part }
     }

@@ -17,14 +17,14 @@ use Rattle.tables.specs.Read.{Reads}
 use Rattle.tables.specs.declared.listing.Listing.{Listing}
 use Rattle.tables.specs.declared.listing.Node.{Node}
 use Rattle.tables.specs.declared.listing.Signature.{Signature}
-use Rattle.judge.specs.Admitting.{start_of, Bodies, Admits, AdmitsLaid, LaidBodies, Lays, PosesBody, body_verdict, PassedBody, AnswersListing}
+use Rattle.judge.specs.Admitting.{start_of, Bodies, Admits, AdmitsOver, BodiesOver, TellsOver, PosesBody, body_verdict, PassedBody, AnswersListing}
 use Rattle.judge.specs.Judging.{listed_nodes, counted}
-use Rattle.judge.specs.Laying.{LaidBody}
+use Rattle.judge.specs.Over.{NotedOverBody}
 use Rattle.judge.specs.Notes.{offsets, widths}
 use Rattle.typing.specs.Rules.{Basis, names_of, type_of}
 use Rattle.judge.specs.declared.table.Note.{Note}
 use Rattle.judge.specs.declared.table.Table.{Table}
-use Rattle.judge.proofs.Noting.{kept, laid_body}
+use Rattle.judge.proofs.Noting.{kept, over_noted_body}
 use Rattle.judge.proofs.Standing.{extent, stand_count, at_first}
 
 -- ---- where bodies begin
@@ -188,14 +188,14 @@ pub record Upto (p : Program) (notes : List Note) (begins : List ℕ) (f n : ℕ
   pub here : n ≡ start_of p.functions f
   pub verdict : program_verdict p ≡ bodies_verdict p.functions (drop f p.functions) n
   pub starts : (k : ℕ) → k < f → get_or begins k 0 ≡ start_of p.functions k
-  pub laid : (k : ℕ) → k < f → LaidBody p.types p.functions notes (fun_at p.functions k) (start_of p.functions k)
+  pub words : (k : ℕ) → k < f → NotedOverBody p.types p.functions notes (fun_at p.functions k) (start_of p.functions k)
 
 pub upto_none : (p : Program) (notes : List Note) (begins : List ℕ) → Upto p notes begins 0 0
 upto_none p notes begins = record {
   here = sym (start_none p.functions);
   verdict = refl;
   starts = λ k h. absurd (not-suc-le-zero h);
-  laid = λ k h. absurd (not-suc-le-zero h);
+  words = λ k h. absurd (not-suc-le-zero h);
 }
 
 -- the signatures of a listing, as the code takes them
@@ -233,7 +233,7 @@ module _ (l : Listing) (p : Program) (h : Holds l p) (notes : List Note) (begins
         ∙ then_faulty (judge p.functions (fun_at p.functions f).body n (fun_at p.functions f).params) _ _ w i e
 
     pub upto_more : (notes' : List Note) (m : ℕ) → length notes' ≡ length notes → length begins ≡ 32
-        → PassedBody p.types p.functions (fun_at p.functions f) n (start_of p.functions (f + 1)) notes notes' m → LaidBody p.types p.functions notes' (fun_at p.functions f) n → Upto p notes' (set begins f n) (f + 1) m
+        → PassedBody p.types p.functions (fun_at p.functions f) n (start_of p.functions (f + 1)) notes notes' m → NotedOverBody p.types p.functions notes' (fun_at p.functions f) n → Upto p notes' (set begins f n) (f + 1) m
     upto_more notes' m long full b d =
         let e = start_more p.functions f within in
         let o = u.here in
@@ -245,7 +245,7 @@ module _ (l : Listing) (p : Program) (h : Holds l p) (notes : List Note) (begins
               ∙ then_fine (judge p.functions (fun_at p.functions f).body n (fun_at p.functions f).params) _ _ b.typed
               ∙ ap (bodies_verdict p.functions (drop (f + 1) p.functions)) q;
           starts = λ i j. starts_at i (cases_lt i f) j;
-          laid = λ i j. laid_at i (cases_lt i f) j;
+          words = λ i j. over_at i (cases_lt i f) j;
         }
       where
         room : f < length begins
@@ -261,17 +261,17 @@ module _ (l : Listing) (p : Program) (h : Holds l p) (notes : List Note) (begins
             let z : f ≡ i = omega arith in
             subst (λ (x : ℕ). get_or (set begins f n) x 0 ≡ start_of p.functions x) z (get_or-set_same begins f n 0 room ∙ u.here)
 
-        laid_at : (i : ℕ) → (i < f) ⊎ (f ≤ i) → i < f + 1 → LaidBody p.types p.functions notes' (fun_at p.functions i) (start_of p.functions i)
-        laid_at i (inl j) g =
+        over_at : (i : ℕ) → (i < f) ⊎ (f ≤ i) → i < f + 1 → NotedOverBody p.types p.functions notes' (fun_at p.functions i) (start_of p.functions i)
+        over_at i (inl j) g =
             let a = start_after p.functions i f j (let w = within in omega arith) in
             let o = u.here in
             kept p.types p.functions notes notes' (omega arith) (fun_at p.functions i).body (start_of p.functions i) (fun_at p.functions i).params
             (offsets 0 (fun_at p.functions i).params) (widths (fun_at p.functions i).params) (fun_at p.functions i).result
-            (λ x d y z. b.earlier x d (omega arith)) (u.laid i j)
-        laid_at i (inr j) g =
+            (λ x d y z. b.earlier x d (omega arith)) (u.words i j)
+        over_at i (inr j) g =
             let z : f ≡ i = omega arith in
-            subst (λ (x : ℕ). LaidBody p.types p.functions notes' (fun_at p.functions x) (start_of p.functions x)) z
-            (subst (LaidBody p.types p.functions notes' (fun_at p.functions f)) u.here d)
+            subst (λ (x : ℕ). NotedOverBody p.types p.functions notes' (fun_at p.functions x) (start_of p.functions x)) z
+            (subst (NotedOverBody p.types p.functions notes' (fun_at p.functions f)) u.here d)
 
   pub upto_all : length (part l) ≤ f → (program_verdict p ≡ fine tt) × Bodies p.types p.functions notes begins
   upto_all k =
@@ -280,15 +280,15 @@ module _ (l : Listing) (p : Program) (h : Holds l p) (notes : List Note) (begins
         u.verdict ∙ ap (λ (x : List Fun). bodies_verdict p.functions x n) (drop_all f p.functions (omega arith)),
         record {
           starts = λ i j. u.starts i (omega arith);
-          noted = λ i j. laid_body p.types p.functions notes (fun_at p.functions i) (start_of p.functions i) (u.laid i (omega arith));
+          noted = λ i j. over_noted_body p.types p.functions notes (fun_at p.functions i) (start_of p.functions i) (u.words i (omega arith));
         },
       )
 
-  pub laid_all : length (part l) ≤ f → LaidBodies p.types p.functions notes
-  laid_all k =
+  pub bodies_over : length (part l) ≤ f → BodiesOver p.types p.functions notes
+  bodies_over k =
       let m = (held l p h).many in
       let e = ap length (whole_part l) in
-      record { laid = λ i j. u.laid i (omega arith) }
+      record { words = λ i j. u.words i (omega arith) }
 
 -- ---- admission
 
@@ -300,9 +300,9 @@ judged_admits bs p q e (Ok t) a = (p, ap admitted e ∙ ap (judged p) a.0, a.1)
 judged_admits bs p q e (Err f) a =
     ap admitted e ∙ ap (judged p) a.verdict ∙ ap (λ x. Err (record { refusal = f.refusal; place = f.place; part = x })) (sym a.part)
 
-pub judged_lays : (bs : List ℕ) (p : Program) (q : ℕ) → scanned_table bs ≡ done p q → (r : Result Table Fault) → AnswersListing p r → IfOk r (λ t. Lays t p) → AdmitsLaid bs r
-judged_lays bs p q e (Ok t) a l = λ p' h.
+pub judged_over : (bs : List ℕ) (p : Program) (q : ℕ) → scanned_table bs ≡ done p q → (r : Result Table Fault) → AnswersListing p r → IfOk r (λ t. TellsOver t p) → AdmitsOver bs r
+judged_over bs p q e (Ok t) a l = λ p' h.
     let s : admission bs ≡ Ok p = ap admitted e ∙ ap (judged p) a.0 in
     let u : p ≡ p' = cc in
-    subst (λ (x : Program). Lays t x) u l
-judged_lays bs p q e (Err f) a l = tt
+    subst (λ (x : Program). TellsOver t x) u l
+judged_over bs p q e (Err f) a l = tt

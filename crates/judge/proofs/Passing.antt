@@ -17,7 +17,7 @@ use Rattle.tables.specs.declared.listing.Node.{Node}
 use Rattle.tables.specs.declared.listing.Signature.{Signature}
 use Rattle.typing.specs.Codes.{Typed, Coded, CodedAll, Encodes, slot_type, slot_types}
 use Rattle.judge.specs.Judging.{listed_nodes, arms_from, counted, Poses, PosesAll, PosesArms, Passed, PassedAll, Earlier, Faulted}
-use Rattle.judge.specs.Laying.{ArmsLaid, LaidAt, Laid, LaidAll, LaidArms}
+use Rattle.judge.specs.Over.{ArmsNotedOver, NotedOverAt, NotedOver, NotedOverAll, NotedOverArms}
 use Rattle.judge.specs.Notes.{note_at, offsets, widths}
 use Rattle.typing.specs.Rules.{Agrees, Says, Basis, Short, Known, subject, wanted, parts_of, asked, names_of}
 use Rattle.typing.specs.Scopes.{mask, masks, twice, head_mask}
@@ -31,7 +31,7 @@ use Rattle.typing.specs.declared.rules.Rule.{Rule}
 use Rattle.typing.specs.declared.scope.Scope.{Scope}
 use Rattle.judge.specs.declared.table.Note.{Note}
 use Rattle.typing.proofs.Coding.{code_cases, row_length}
-use Rattle.judge.proofs.Noting.{laid_noted, kept, kept_all, kept_arms}
+use Rattle.judge.proofs.Noting.{over_noted, kept, kept_all, kept_arms}
 use Rattle.typing.proofs.Ruling.{arity_is}
 use Rattle.judge.proofs.Standing.{extent_all, stand_count, AtNode, all_at}
 use Rattle.judge.proofs.Verdicts.{all_judged, arms_judged}
@@ -204,20 +204,20 @@ module _ (l : Listing) (s : Scope) (n : ℕ) (ts : List Ty) (fs : List Fun) (Γ 
             go (inl h) = subst (Coded ts c) (sym ((says As).whole (type_at Bs 0) h)) (f h)
             go (inr h) = let k : 1 ≤ r.arms = omega arith in subst (Coded ts c) (sym ((says As).chosen (type_at Bs 0) k)) (g k)
 
--- an expression that passes and is laid
-pub record Whole (ts : List Ty) (fs : List Fun) (Γ : List Ty) (ps : List ℕ) (over n : ℕ) (e : Expr) (j : ℕ) (notes notes' : List Note) (r : Found) : Type 0 where
+-- an expression that passes, and is noted with its words, of whatever type it is found to have
+pub record Settled (ts : List Ty) (fs : List Fun) (Γ : List Ty) (ps : List ℕ) (over n : ℕ) (e : Expr) (j : ℕ) (notes notes' : List Note) (r : Found) : Type 0 where
   pub passed : Passed ts fs Γ ps over n e j notes notes' r
-  pub laid : Laid ts fs notes' e n Γ ps over passed.type
+  pub words : NotedOver ts fs notes' e n Γ ps over passed.type
 
--- a verdict has one value
+-- a verdict is fine with one thing only
 pub same_fine : {X : Type 0} {v : Verdict X} {x y : X} → v ≡ fine x → v ≡ fine y → x ≡ y
 same_fine p q = cc
 
-pub whole_laid : {ts : List Ty} {fs : List Fun} {Γ : List Ty} {ps : List ℕ} {over n : ℕ} {e : Expr} {j : ℕ} {notes notes' : List Note} {r : Found}
-    → (X : Whole ts fs Γ ps over n e j notes notes' r) → (A : Ty) → judge fs e n Γ ≡ fine A → Laid ts fs notes' e n Γ ps over A
-whole_laid {ts} {fs} {Γ} {ps} {over} {n} {e} {j} {notes} {notes'} X A h = subst (λ (B : Ty). Laid ts fs notes' e n Γ ps over B) (same_fine X.passed.typed h) X.laid
+pub settled_over : {ts : List Ty} {fs : List Fun} {Γ : List Ty} {ps : List ℕ} {over n : ℕ} {e : Expr} {j : ℕ} {notes notes' : List Note} {r : Found}
+    → (X : Settled ts fs Γ ps over n e j notes notes' r) → (A : Ty) → judge fs e n Γ ≡ fine A → NotedOver ts fs notes' e n Γ ps over A
+settled_over {ts} {fs} {Γ} {ps} {over} {n} {e} {j} {notes} {notes'} X A h = subst (λ (B : Ty). NotedOver ts fs notes' e n Γ ps over B) (same_fine X.passed.typed h) X.words
 
--- several that pass: what is said of their types may be another thing, if it follows, or if it holds of the types that are found
+-- several that pass pass also where another thing is to hold of their types, if it does
 pub holding : {ts before : List Ty} {v : Verdict (List Ty)} {es : Exprs} {n j : ℕ} {H K : List Ty → Type 0} {notes notes' : List Note} {r : Several}
     → (R : PassedAll ts before v es n j H notes notes' r) → K R.types → PassedAll ts before v es n j K notes notes' r
 holding R k = record {
@@ -232,18 +232,18 @@ holding R k = record {
   earlier = R.earlier;
 }
 
-pub held_laid : {ts before : List Ty} {v : Verdict (List Ty)} {es : Exprs} {n j : ℕ} {H : List Ty → Type 0} {notes notes' : List Note} {r : Several}
+pub held_of_types : {ts before : List Ty} {v : Verdict (List Ty)} {es : Exprs} {n j : ℕ} {H : List Ty → Type 0} {notes notes' : List Note} {r : Several}
     → (R : PassedAll ts before v es n j H notes notes' r) → (As : List Ty) → v ≡ fine As → H As
-held_laid {H = H} R As h = subst H (same_fine R.typed h) R.noted
+held_of_types {H = H} R As h = subst H (same_fine R.typed h) R.noted
 
 -- everything is settled: the note is written, and the expression passes
 pub passes : (ts : List Ty) (fs : List Fun) (Γ : List Ty) (ps : List ℕ) (over n j m : ℕ) (e : Expr) (h : Head) (es qs : Exprs) → e ≡ expr h es qs → m ≡ n + 1 + sizes es → j ≡ m + sizes qs
     → (As Bs : List Ty) (bs : List (List Ty)) (notes notes₁ notes₂ : List Note) → (rule fs Γ h As).arms ≡ bs → length notes₁ ≡ length notes₂ → n < length notes₂
-    → LaidAll ts fs notes₁ es (n + 1) Γ ps over As → Earlier (n + 1) notes notes₁ → ArmsLaid ts fs notes₂ qs m bs Γ ps over Bs → Earlier m notes₁ notes₂
+    → NotedOverAll ts fs notes₁ es (n + 1) Γ ps over As → Earlier (n + 1) notes notes₁ → ArmsNotedOver ts fs notes₂ qs m bs Γ ps over Bs → Earlier m notes₁ notes₂
     → fits (rule fs Γ h As) As ≡ true → alike (type_at Bs 0) Bs ≡ true → shares 0 Γ es qs ≡ false
     → judge fs e n Γ ≡ fine ((rule fs Γ h As).whole (type_at Bs 0))
     → (c o p mp mq : ℕ) → Coded ts c ((rule fs Γ h As).whole (type_at Bs 0)) → o ≡ head_mask h → mp ≡ masks es → mq ≡ masks qs → ((i : ℕ) → h ≡ var i → p ≡ get_or ps i 0)
-    → (k : ℕ) → k ≡ j → over ≤ 49152 → Whole ts fs Γ ps over n e j notes (set notes₂ n (record { code = c; end = k; place = p; over = over })) (record { code = c; mask = bit_or o (bit_or mp mq); end = k })
+    → (k : ℕ) → k ≡ j → over ≤ 49152 → Settled ts fs Γ ps over n e j notes (set notes₂ n (record { code = c; end = k; place = p; over = over })) (record { code = c; mask = bit_or o (bit_or mp mq); end = k })
 passes ts fs Γ ps over n j m e h es qs is at_m at_j As Bs bs notes notes₁ notes₂ agree long inside all before arms before₂ fit same apart verdict c o p mp mq code own mps mqs place k ends low =
     record {
       passed = record {
@@ -252,10 +252,10 @@ passes ts fs Γ ps over n j m e h es qs is at_m at_j As Bs bs notes notes₁ not
         code = code;
         occur = ap₂ bit_or own (ap₂ bit_or mps mqs) ∙ ap mask (sym is);
         ends = ends;
-        noted = laid_noted ts fs notes₃ e n Γ ps over ((rule fs Γ h As).whole (type_at Bs 0)) laid;
+        noted = over_noted ts fs notes₃ e n Γ ps over ((rule fs Γ h As).whole (type_at Bs 0)) words;
         earlier = λ i d l. other i d (omega arith) ∙ before₂ i d (omega arith) ∙ before i d (omega arith);
       };
-      laid = laid;
+      words = words;
     }
   where
     note : Note
@@ -270,7 +270,7 @@ passes ts fs Γ ps over n j m e h es qs is at_m at_j As Bs bs notes notes₁ not
     here : note_at notes₃ n ≡ note
     here = get_or-set_same notes₂ n note _ inside
 
-    at : LaidAt ts fs notes₃ n h es qs Γ ps over As (type_at Bs 0) ((rule fs Γ h As).whole (type_at Bs 0))
+    at : NotedOverAt ts fs notes₃ n h es qs Γ ps over As (type_at Bs 0) ((rule fs Γ h As).whole (type_at Bs 0))
     at = record {
       noted = record {
         inside = let q = length-set notes₂ n note in omega arith;
@@ -285,16 +285,16 @@ passes ts fs Γ ps over n j m e h es qs is at_m at_j As Bs bs notes notes₁ not
       few = low;
     }
 
-    laid : Laid ts fs notes₃ e n Γ ps over ((rule fs Γ h As).whole (type_at Bs 0))
-    laid =
-        subst (λ (x : Expr). Laid ts fs notes₃ x n Γ ps over ((rule fs Γ h As).whole (type_at Bs 0))) (sym is) (
+    words : NotedOver ts fs notes₃ e n Γ ps over ((rule fs Γ h As).whole (type_at Bs 0))
+    words =
+        subst (λ (x : Expr). NotedOver ts fs notes₃ x n Γ ps over ((rule fs Γ h As).whole (type_at Bs 0))) (sym is) (
           As,
           type_at Bs 0,
           at,
           kept_all ts fs notes₁ notes₃ (let q = length-set notes₂ n note in omega arith) es (n + 1) Γ ps over As
               (λ i d l u. other i d (omega arith) ∙ before₂ i d (omega arith)) all,
-          subst (λ (y : List (List Ty)). LaidArms ts fs notes₃ qs (n + 1 + sizes es) y Γ ps over (type_at Bs 0)) (sym agree)
-              (subst (λ (y : ℕ). LaidArms ts fs notes₃ qs y bs Γ ps over (type_at Bs 0)) at_m
+          subst (λ (y : List (List Ty)). NotedOverArms ts fs notes₃ qs (n + 1 + sizes es) y Γ ps over (type_at Bs 0)) (sym agree)
+              (subst (λ (y : ℕ). NotedOverArms ts fs notes₃ qs y bs Γ ps over (type_at Bs 0)) at_m
               (kept_arms ts fs notes₂ notes₃ (let q = length-set notes₂ n note in omega arith) qs m bs Γ ps over (type_at Bs 0)
               (λ i d l u. other i d (omega arith)) (arms (type_at Bs 0) same))),
         )
@@ -313,9 +313,9 @@ faulted_by {f = f} F g = record { verdict = g f.refusal f.place F.verdict; part 
 -- ---- several
 
 pub no_arms_noted : (ts : List Ty) (fs : List Fun) (notes : List Note) (es : Exprs) (n : ℕ) (l : List (List Ty)) (Γ : List Ty) (ps : List ℕ) (over : ℕ) → es ≡ end → l ≡ []
-    → ArmsLaid ts fs notes es n l Γ ps over []
+    → ArmsNotedOver ts fs notes es n l Γ ps over []
 no_arms_noted ts fs notes es n l Γ ps over p q = λ B h.
-    subst (λ (x : Exprs). LaidArms ts fs notes x n l Γ ps over B) (sym p) (subst (λ (x : List (List Ty)). LaidArms ts fs notes end n x Γ ps over B) (sym q) tt)
+    subst (λ (x : Exprs). NotedOverArms ts fs notes x n l Γ ps over B) (sym p) (subst (λ (x : List (List Ty)). NotedOverArms ts fs notes end n x Γ ps over B) (sym q) tt)
 
 both_masks : (a b : ℕ) (e : Expr) (rest es : Exprs) → es ≡ e then rest → a ≡ mask e → b ≡ masks rest → bit_or a b ≡ masks es
 both_masks a b e rest es is p q = ap₂ bit_or p q ∙ ap masks (sym is)
@@ -343,9 +343,9 @@ none_pass ts before v es n j Holding notes r is at typed holding row m t e = rec
 module _ (ts : List Ty) (fs : List Fun) (Γ : List Ty) (ps : List ℕ) (before : List Ty) (n k j over : ℕ) (e : Expr) (rest es : Exprs) (notes notes₁ notes₂ : List Note) (f : Found) (r : Several)
     (is : es ≡ e then rest) (ends : k ≡ n + size e) (long : length notes₁ ≡ length notes₂) where
   -- the first of several parts, and then the rest
-  pub parts_pass : (over' : ℕ) (P : Whole ts fs Γ ps over n e k notes notes₁ f) → over' ≡ over + width P.passed.type
-      → PassedAll ts (before ++ P.passed.type ∷ []) (exprs_verdict fs rest f.end Γ) rest f.end j (λ As. LaidAll ts fs notes₂ rest f.end Γ ps over' As) notes₁ notes₂ r
-      → PassedAll ts before (exprs_verdict fs es n Γ) es n j (λ As. LaidAll ts fs notes₂ es n Γ ps over As) notes notes₂
+  pub parts_pass : (over' : ℕ) (P : Settled ts fs Γ ps over n e k notes notes₁ f) → over' ≡ over + width P.passed.type
+      → PassedAll ts (before ++ P.passed.type ∷ []) (exprs_verdict fs rest f.end Γ) rest f.end j (λ As. NotedOverAll ts fs notes₂ rest f.end Γ ps over' As) notes₁ notes₂ r
+      → PassedAll ts before (exprs_verdict fs es n Γ) es n j (λ As. NotedOverAll ts fs notes₂ es n Γ ps over As) notes notes₂
       (record { row = r.row; mask = bit_or f.mask r.mask; twice = bit_or (bit_and f.mask r.mask) r.twice; end = r.end })
   parts_pass over' P o R =
       let q : f.end ≡ n + size e = P.passed.ends ∙ ends in
@@ -357,19 +357,19 @@ module _ (ts : List Ty) (fs : List Fun) (Γ : List Ty) (ps : List ℕ) (before :
         again = both_twice f.mask r.mask r.twice e rest es is P.passed.occur R.occur R.again;
         ends = R.ends;
         many = (let m = R.many in let z : suc (length R.types) ≡ 1 + counted rest = omega arith in z) ∙ ap counted (sym is);
-        noted = subst (λ (x : Exprs). LaidAll ts fs notes₂ x n Γ ps over (P.passed.type ∷ R.types)) (sym is) (
-          kept ts fs notes₁ notes₂ (omega arith) e n Γ ps over P.passed.type (λ i d l u. R.earlier i d (omega arith)) P.laid,
-          subst (λ (x : ℕ). LaidAll ts fs notes₂ rest x Γ ps (over + width P.passed.type) R.types) q
-              (subst (λ (x : ℕ). LaidAll ts fs notes₂ rest f.end Γ ps x R.types) o R.noted),
+        noted = subst (λ (x : Exprs). NotedOverAll ts fs notes₂ x n Γ ps over (P.passed.type ∷ R.types)) (sym is) (
+          kept ts fs notes₁ notes₂ (omega arith) e n Γ ps over P.passed.type (λ i d l u. R.earlier i d (omega arith)) P.words,
+          subst (λ (x : ℕ). NotedOverAll ts fs notes₂ rest x Γ ps (over + width P.passed.type) R.types) q
+              (subst (λ (x : ℕ). NotedOverAll ts fs notes₂ rest f.end Γ ps x R.types) o R.noted),
         );
         earlier = λ i d l. R.earlier i d (omega arith) ∙ P.passed.earlier i d l;
       }
 
   -- the first of several arms, which binds variables of the types b, and then the rest
   pub arms_pass : (w over' : ℕ) (b : List Ty) (bs bss : List (List Ty)) → bss ≡ b ∷ bs → over' ≡ over + widths b
-      → (P : Whole ts fs (Γ ++ b) (ps ++ offsets over b) over' n e k notes notes₁ f)
-      → PassedAll ts (before ++ P.passed.type ∷ []) (arms_verdict fs rest bs w f.end Γ) rest f.end j (ArmsLaid ts fs notes₂ rest f.end bs Γ ps over) notes₁ notes₂ r
-      → PassedAll ts before (arms_verdict fs es bss w n Γ) es n j (ArmsLaid ts fs notes₂ es n bss Γ ps over) notes notes₂
+      → (P : Settled ts fs (Γ ++ b) (ps ++ offsets over b) over' n e k notes notes₁ f)
+      → PassedAll ts (before ++ P.passed.type ∷ []) (arms_verdict fs rest bs w f.end Γ) rest f.end j (ArmsNotedOver ts fs notes₂ rest f.end bs Γ ps over) notes₁ notes₂ r
+      → PassedAll ts before (arms_verdict fs es bss w n Γ) es n j (ArmsNotedOver ts fs notes₂ es n bss Γ ps over) notes notes₂
       (record { row = r.row; mask = bit_or f.mask r.mask; twice = bit_or (bit_and f.mask r.mask) r.twice; end = r.end })
   arms_pass w over' b bs bss binds o P R =
       let q : f.end ≡ n + size e = P.passed.ends ∙ ends in
@@ -383,19 +383,19 @@ module _ (ts : List Ty) (fs : List Fun) (Γ : List Ty) (ps : List ℕ) (before :
         many = (let m = R.many in let z : suc (length R.types) ≡ 1 + counted rest = omega arith in z) ∙ ap counted (sym is);
         noted = λ B same.
             let t = and_parts (same_ty B P.passed.type) (alike B R.types) same in
-            subst (λ (x : Exprs). LaidArms ts fs notes₂ x n bss Γ ps over B) (sym is)
-            (subst (λ (x : List (List Ty)). LaidArms ts fs notes₂ (e then rest) n x Γ ps over B) (sym binds) (
-              subst (λ (X : Ty). Laid ts fs notes₂ e n (Γ ++ b) (ps ++ offsets over b) (over + widths b) X) (sym (same_eq B P.passed.type t.0))
-                  (subst (λ (x : ℕ). Laid ts fs notes₂ e n (Γ ++ b) (ps ++ offsets over b) x P.passed.type) o
-                  (kept ts fs notes₁ notes₂ (omega arith) e n (Γ ++ b) (ps ++ offsets over b) over' P.passed.type (λ i d l u. R.earlier i d (omega arith)) P.laid)),
-              subst (λ (x : ℕ). LaidArms ts fs notes₂ rest x bs Γ ps over B) q (R.noted B t.1),
+            subst (λ (x : Exprs). NotedOverArms ts fs notes₂ x n bss Γ ps over B) (sym is)
+            (subst (λ (x : List (List Ty)). NotedOverArms ts fs notes₂ (e then rest) n x Γ ps over B) (sym binds) (
+              subst (λ (X : Ty). NotedOver ts fs notes₂ e n (Γ ++ b) (ps ++ offsets over b) (over + widths b) X) (sym (same_eq B P.passed.type t.0))
+                  (subst (λ (x : ℕ). NotedOver ts fs notes₂ e n (Γ ++ b) (ps ++ offsets over b) x P.passed.type) o
+                  (kept ts fs notes₁ notes₂ (omega arith) e n (Γ ++ b) (ps ++ offsets over b) over' P.passed.type (λ i d l u. R.earlier i d (omega arith)) P.words)),
+              subst (λ (x : ℕ). NotedOverArms ts fs notes₂ rest x bs Γ ps over B) q (R.noted B t.1),
             ));
         earlier = λ i d l. R.earlier i d (omega arith) ∙ P.passed.earlier i d l;
       }
 
 -- a body over its parameters
 pub body_noted : (ts : List Ty) (fs : List Fun) (notes : List Note) (e : Expr) (n : ℕ) (Γ : List Ty) (z w : ℕ) (A B : Ty) → z ≡ 0 → w ≡ widths Γ → A ≡ B
-    → Laid ts fs notes e n Γ (offsets z Γ) w A → Laid ts fs notes e n Γ (offsets 0 Γ) (widths Γ) B
+    → NotedOver ts fs notes e n Γ (offsets z Γ) w A → NotedOver ts fs notes e n Γ (offsets 0 Γ) (widths Γ) B
 body_noted ts fs notes e n Γ z w A B p q r t =
-    subst (λ (x : ℕ). Laid ts fs notes e n Γ (offsets x Γ) (widths Γ) B) p
-    (subst (λ (x : ℕ). Laid ts fs notes e n Γ (offsets z Γ) x B) q (subst (λ (X : Ty). Laid ts fs notes e n Γ (offsets z Γ) w X) r t))
+    subst (λ (x : ℕ). NotedOver ts fs notes e n Γ (offsets x Γ) (widths Γ) B) p
+    (subst (λ (x : ℕ). NotedOver ts fs notes e n Γ (offsets z Γ) x B) q (subst (λ (X : Ty). NotedOver ts fs notes e n Γ (offsets z Γ) w X) r t))

@@ -10,7 +10,7 @@ use Rattle.tables.specs.Listed.{Holds, Stands, Signs}
 use Rattle.tables.specs.declared.listing.Listing.{Listing}
 use Rattle.tables.specs.declared.listing.Signature.{Signature}
 use Rattle.judge.specs.Judging.{Earlier, Faulted, listed_nodes}
-use Rattle.judge.specs.Laying.{LaidBody}
+use Rattle.judge.specs.Over.{NotedOverBody}
 use Rattle.judge.specs.Notes.{NotedBody}
 use Rattle.typing.specs.Rules.{Basis, names_of, type_of}
 use Rattle.judge.specs.declared.table.Note.{Note}
@@ -37,18 +37,18 @@ abbrev pub Admits : List ℕ → Result Table Fault → Type 0
 Admits bs (Ok t) = (p : Program) × (admission bs ≡ Ok p) × Carries t p
 Admits bs (Err f) = admission bs ≡ Err f
 
--- Beside it: each body is laid, so that every note tells the words that its expression stands over.
-pub record LaidBodies (ts : List Ty) (fs : List Fun) (notes : List Note) : Type 0 where
-  pub laid : (f : ℕ) → f < length fs → LaidBody ts fs notes (fun_at fs f) (start_of fs f)
+-- Beside it, for the machine: in each body every note tells the words that its expression stands over.
+pub record BodiesOver (ts : List Ty) (fs : List Fun) (notes : List Note) : Type 0 where
+  pub words : (f : ℕ) → f < length fs → NotedOverBody ts fs notes (fun_at fs f) (start_of fs f)
 
--- a table whose notes tell this of the bodies of the program p
-abbrev pub Lays : Table → Program → Type 0
-Lays t p = LaidBodies p.types p.functions t.notes
+-- the table's notes tell this of the program p
+abbrev pub TellsOver : Table → Program → Type 0
+TellsOver t p = BodiesOver p.types p.functions t.notes
 
--- what is answered for a table's bytes: a table lays the program that they are admitted as
-abbrev pub AdmitsLaid : List ℕ → Result Table Fault → Type 0
-AdmitsLaid bs (Ok t) = (p : Program) → admission bs ≡ Ok p → Lays t p
-AdmitsLaid bs (Err f) = Unit {0}
+-- what is answered for a table's bytes besides: a table that tells this of the program that they are admitted as
+abbrev pub AdmitsOver : List ℕ → Result Table Fault → Type 0
+AdmitsOver bs (Ok t) = (p : Program) → admission bs ≡ Ok p → TellsOver t p
+AdmitsOver bs (Err f) = Unit {0}
 
 -- ---- the judge of a listing
 

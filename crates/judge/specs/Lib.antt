@@ -1,5 +1,5 @@
 -- The definitions that the contracts of this crate cite.
 pub mod Admitting
 pub mod Judging
-pub mod Laying
+pub mod Over
 pub mod Notes

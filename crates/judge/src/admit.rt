@@ -1,5 +1,5 @@
 ghost use Rattle.lfpl.specs.Admission.{AdmissionIsTyping};
-ghost use Rattle.judge.specs.Admitting.{Admits, AdmitsLaid};
+ghost use Rattle.judge.specs.Admitting.{Admits, AdmitsOver};
 
 use crate::judge::judge_listing;
 use crate::table::Table;
@@ -11,7 +11,7 @@ use tables::read::read_table;
 pub fn admit(bytes: &[u8]) -> Result<Table, Fault>
     ensures answers { Admits bytes.now result }
     ensures typing { AdmissionIsTyping bytes.now }
-    ensures laid { AdmitsLaid bytes.now result }
+    ensures words { AdmitsOver bytes.now result }
 {
     let listing = read_table(bytes)?;
     judge_listing(listing)

@@ -4,10 +4,10 @@ ghost use Rattle.lfpl.specs.Judge.{fine, judge, exprs_verdict, arms_verdict};
 ghost use Rattle.lfpl.specs.Syntax.{Expr, Exprs, Fun, Program, Ty, var};
 ghost use Rattle.lfpl.specs.Typing.{alike, type_at};
 ghost use Rattle.tables.specs.Listed.{Holds, InRange, head_of};
-ghost use Rattle.judge.specs.Admitting.{AnswersBodies, AnswersBody, AnswersListing, LaidBodies, Lays, PosedBody, PosesBody};
+ghost use Rattle.judge.specs.Admitting.{AnswersBodies, AnswersBody, AnswersListing, BodiesOver, TellsOver, PosedBody, PosesBody};
 ghost use Rattle.typing.specs.Codes.{Encodes, Typed, slot_types};
 ghost use Rattle.judge.specs.Judging.{Answers, AnswersAll, ArmsNoted, Poses, PosesAll, PosesArms, Posed, PosedAll, PosedArms, arms_from};
-ghost use Rattle.judge.specs.Laying.{ArmsLaid, Laid, LaidAll, LaidBody};
+ghost use Rattle.judge.specs.Over.{ArmsNotedOver, NotedOver, NotedOverAll, NotedOverBody};
 ghost use Rattle.judge.specs.Notes.{NotedAll};
 ghost use Rattle.typing.specs.Rules.{names_of};
 ghost use Rattle.typing.specs.Scopes.{Scopes, head_mask};
@@ -109,7 +109,7 @@ fn judge(listing: &Listing, at: usize, scope: Scope, notes: &mut [Note]) -> Resu
     requires low { scope.over ≤ 96 * (at + 1) }
     requires posed { Posed listing.now scope at }
     ensures answers { (ts : List Ty) (fs : List Fun) (Γ : List Ty) (ps : List ℕ) (e : Expr) (j : ℕ) → Poses listing.now scope at ts fs Γ ps e j → Answers ts fs Γ ps scope.over at e j notes.old notes.new result }
-    ensures laid { (ts : List Ty) (fs : List Fun) (Γ : List Ty) (ps : List ℕ) (e : Expr) (j : ℕ) → Poses listing.now scope at ts fs Γ ps e j → OnOk result ((A : Ty) → judge fs e at Γ ≡ fine A → Laid ts fs notes.new e at Γ ps scope.over A) }
+    ensures words { (ts : List Ty) (fs : List Fun) (Γ : List Ty) (ps : List ℕ) (e : Expr) (j : ℕ) → Poses listing.now scope at ts fs Γ ps e j → OnOk result ((A : Ty) → judge fs e at Γ ≡ fine A → NotedOver ts fs notes.new e at Γ ps scope.over A) }
 {
     let node = listing.nodes[at];
     let rule = rule_of(node.kind);
@@ -156,7 +156,7 @@ fn judge_parts(
     requires room { done.count + count ≤ 6 }
     requires posed { PosedAll listing.now scope count at }
     ensures answers { (ts : List Ty) (fs : List Fun) (Γ : List Ty) (ps : List ℕ) (Ds : List Ty) (es : Exprs) (j : ℕ) → PosesAll listing.now scope (replicate count (length Γ)) at ts fs Γ ps es j → Encodes ts done Ds → AnswersAll ts Ds (exprs_verdict fs es at Γ) es at j (λ As. NotedAll ts fs notes.new es at Γ ps scope.over As) notes.old notes.new result }
-    ensures laid { (ts : List Ty) (fs : List Fun) (Γ : List Ty) (ps : List ℕ) (Ds : List Ty) (es : Exprs) (j : ℕ) → PosesAll listing.now scope (replicate count (length Γ)) at ts fs Γ ps es j → Encodes ts done Ds → OnOk result ((As : List Ty) → exprs_verdict fs es at Γ ≡ fine As → LaidAll ts fs notes.new es at Γ ps scope.over As) }
+    ensures words { (ts : List Ty) (fs : List Fun) (Γ : List Ty) (ps : List ℕ) (Ds : List Ty) (es : Exprs) (j : ℕ) → PosesAll listing.now scope (replicate count (length Γ)) at ts fs Γ ps es j → Encodes ts done Ds → OnOk result ((As : List Ty) → exprs_verdict fs es at Γ ≡ fine As → NotedOverAll ts fs notes.new es at Γ ps scope.over As) }
 {
     if count == 0 {
         return Ok(Several {
@@ -192,7 +192,7 @@ fn judge_arms(
     requires room { done.count ≡ arm }
     requires posed { PosedArms listing.now scope rule code arm at }
     ensures answers { (ts : List Ty) (fs : List Fun) (Γ : List Ty) (ps : List ℕ) (Ds : List Ty) (A : Ty) (es : Exprs) (w j : ℕ) → PosesArms listing.now scope rule code arm at ts fs Γ ps A es j → Encodes ts done Ds → AnswersAll ts Ds (arms_verdict fs es (map (slot_types A) (arms_from rule arm)) w at Γ) es at j (ArmsNoted ts fs notes.new es at (map (slot_types A) (arms_from rule arm)) Γ ps scope.over) notes.old notes.new result }
-    ensures laid { (ts : List Ty) (fs : List Fun) (Γ : List Ty) (ps : List ℕ) (Ds : List Ty) (A : Ty) (es : Exprs) (w j : ℕ) → PosesArms listing.now scope rule code arm at ts fs Γ ps A es j → Encodes ts done Ds → OnOk result ((Bs : List Ty) → arms_verdict fs es (map (slot_types A) (arms_from rule arm)) w at Γ ≡ fine Bs → ArmsLaid ts fs notes.new es at (map (slot_types A) (arms_from rule arm)) Γ ps scope.over Bs) }
+    ensures words { (ts : List Ty) (fs : List Fun) (Γ : List Ty) (ps : List ℕ) (Ds : List Ty) (A : Ty) (es : Exprs) (w j : ℕ) → PosesArms listing.now scope rule code arm at ts fs Γ ps A es j → Encodes ts done Ds → OnOk result ((Bs : List Ty) → arms_verdict fs es (map (slot_types A) (arms_from rule arm)) w at Γ ≡ fine Bs → ArmsNotedOver ts fs notes.new es at (map (slot_types A) (arms_from rule arm)) Γ ps scope.over Bs) }
 {
     if arm >= rule.arms {
         return Ok(Several {
@@ -220,7 +220,7 @@ fn judge_body(
     requires long { length notes.old ≡ 512 }
     requires posed { PosedBody listing.now signature at }
     ensures answers { (ts : List Ty) (fs : List Fun) (g : Fun) (j : ℕ) → PosesBody listing.now signature at ts fs g j → AnswersBody ts fs g at j notes.old notes.new result }
-    ensures laid { (ts : List Ty) (fs : List Fun) (g : Fun) (j : ℕ) → PosesBody listing.now signature at ts fs g j → OnOk result (LaidBody ts fs notes.new g at) }
+    ensures words { (ts : List Ty) (fs : List Fun) (g : Fun) (j : ℕ) → PosesBody listing.now signature at ts fs g j → OnOk result (NotedOverBody ts fs notes.new g at) }
 {
     let params = parameter_codes(listing, signature);
     let scope = extend_all(listing, no_variables(), params);
@@ -238,7 +238,7 @@ fn judge_bodies(listing: &Listing, notes: &mut [Note], starts: &mut [usize]) -> 
     requires starts { length starts.old ≡ 32 }
     requires holds { (p : Program) × Holds listing.now p }
     ensures answers { (p : Program) → Holds listing.now p → AnswersBodies p notes.new starts.new result }
-    ensures laid { (p : Program) → Holds listing.now p → OnOk result (LaidBodies p.types p.functions notes.new) }
+    ensures words { (p : Program) → Holds listing.now p → OnOk result (BodiesOver p.types p.functions notes.new) }
 {
     let signatures = &listing.signatures[0..listing.functions];
     let mut at = 0;
@@ -254,7 +254,7 @@ fn judge_bodies(listing: &Listing, notes: &mut [Note], starts: &mut [usize]) -> 
 pub(crate) fn judge_listing(listing: Listing) -> Result<Table, Fault>
     requires { (p : Program) × Holds listing p }
     ensures answers { (p : Program) → Holds listing p → AnswersListing p result }
-    ensures laid { (p : Program) → Holds listing p → IfOk result (λ t. Lays t p) }
+    ensures words { (p : Program) → Holds listing p → IfOk result (λ t. TellsOver t p) }
 {
     let mut notes = [Note {
         code: 0,

@@ -31,17 +31,16 @@ fn reverse_is_admitted(rt: HostRuntime) -> Result<(), Fail> {
     }
 }
 
-// The helper's body stands over its two lists. Its second arm binds a diamond, an element and a tail, so it stands over five words; the cons in it over six, since a
-// list stands before it, and the last part of the cons over two more.
+// A list taken apart and put together again. The body stands over its one parameter, and the arm without an element too; the other arm stands over four words, since
+// it binds a diamond, an element and a tail; its last part stands over the two parts before it besides.
 #[test]
-fn bodies_stand_over_their_words(rt: HostRuntime) {
-    let bytes =
-        b"\x02\x00\x02\x00\x02\x02\x01\x01\x01\x01\x01\x01\x0c\x00\x00\x00\x01\x01\x00\x00\x04\x0b\x00\x02\x00\x03\x00\x01\x01\x00\x00\x00\x0a\x01";
+fn notes_tell_the_words_below(rt: HostRuntime) {
+    let bytes = b"\x02\x00\x02\x00\x01\x01\x01\x01\x0c\x00\x00\x0a\x01\x0b\x00\x01\x00\x02\x00\x03";
     let overs = match admit(bytes) {
-        Ok(table) => [0, 3, 5, 8].map(|at| table.note(at).over),
+        Ok(table) => [0, 2, 3, 6].map(|at| table.note(at).over),
         Err(_) => [0; 4],
     };
-    assert_eq!(rt; overs, [2, 5, 6, 8]);
+    assert_eq!(rt; overs, [1, 1, 4, 6]);
 }
 
 // A list used twice in a pair; a number may be.

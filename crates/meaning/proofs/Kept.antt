@@ -1,6 +1,6 @@
 -- What every step keeps. Each expression of a run owes something to the one that waits for it: a value of a type, of at most some charge, and it stands no lower
 -- than some level. `Begins` says that an expression to begin gives what is due, `Ready` that one under way does, `Waits` that it does once it has a value that is
--- due to it, and `Stood` that the waiting expressions hang together. One lemma, `proceed-kept`, covers all kinds of expressions.
+-- due to it, and `Stood` that the waiting expressions hang together. One lemma, `proceed_kept`, covers all kinds of expressions.
 use Rattle.std.proofs.Common.{◌≡◌, ℕ, zero, suc, ◌+◌, ◌<◌, ◌≤◌, Bool, true, false, ◌||◌, List, [], ◌∷◌, ◌++◌, length, sym, refl, ◌∙◌, subst, true≢false, append_assoc, append-nil, le_refl, arith}
 use mathlib.Core.Option.{Option, none, some}
 use mathlib.Core.Bool.{false≢true}

@@ -14,22 +14,28 @@ pub fn meaning_is_least()
 
 /// The machine ends as the meaning says, at that step and no other; till then it takes each step, and it may be carried in pieces.
 pub fn runs_end_as_meant()
-    ensures { (EndsLaw) × ((GoingLaw) × (PiecesLaw)) }
+    ensures ends { EndsLaw }
+    ensures going { GoingLaw }
+    ensures pieces { PiecesLaw }
 {}
 
 /// A value within the limits is Hofmann's, and a run halts exactly at the limits.
 pub fn limits_only_halt()
-    ensures { (LimitsLaw) × (HaltsLaw) }
+    ensures within { LimitsLaw }
+    ensures halts { HaltsLaw }
 {}
 
 /// A judged program never goes wrong, keeps to its declared types, and never charges more cells than its arguments did.
 pub fn judged_programs_keep_their_cells()
-    ensures { (SoundLaw) × (LinearLaw) }
+    ensures sound { SoundLaw }
+    ensures linear { LinearLaw }
 {}
 
 /// What a going run's state is made of: numbers that are places in the table, no more than the limits allow, and types that the table knows.
 pub fn states_stay_in_the_table()
-    ensures { (PlacesLaw) × ((BoundsLaw) × (TypesLaw)) }
+    ensures places { PlacesLaw }
+    ensures bounds { BoundsLaw }
+    ensures types { TypesLaw }
 {}
 
 /// The worked examples hold.

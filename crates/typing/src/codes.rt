@@ -137,7 +137,8 @@ pub fn push(row: Row, code: u8) -> Row
 
 // Two rows are of the same types.
 pub fn same(a: Row, b: Row) -> bool
-    requires { (a.count ≤ 6) × (b.count ≤ 6) }
+    requires left { a.count ≤ 6 }
+    requires right { b.count ≤ 6 }
     ensures { (l : Listing) (ts As Bs : List Ty) → Typed l ts → Encodes ts a As → Encodes ts b Bs → result ≡ same_tys As Bs }
 {
     a.codes[0..a.count] == b.codes[0..b.count]

@@ -3,4 +3,4 @@ use Rattle.meaning.proofs.Reached.{halts_law}
 use Rattle.meaning.proofs.limits_only_halt.Goals as goal
 
 pub returns : goal.returns
-returns c = (limits_law, halts_law)
+returns c = record { within = limits_law; halts = halts_law }

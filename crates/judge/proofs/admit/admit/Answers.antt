@@ -1,6 +1,6 @@
 use Rattle.lfpl.proofs.Admitted.{admission_is_typing}
 use Rattle.std.proofs.lemmas.Result.{err_from_is_err_and}
-use Rattle.judge.proofs.Bodied.{read_refused, judged_admits, judged_lays}
+use Rattle.judge.proofs.Bodied.{read_refused, judged_admits, judged_over}
 use Rattle.judge.proofs.admit.admit.Goals as goal
 
 pub returns-in_err-listing : goal.returns-in_err-listing
@@ -9,7 +9,7 @@ returns-in_err-listing c =
     record {
       answers = rw (r.1, r.2) (read_refused c.args.bytes.now _ c.in_err-listing.ensures);
       typing = admission_is_typing c.args.bytes.now;
-      laid = rw r.1 tt;
+      words = rw r.1 tt;
     }
 
 pub returns : goal.returns
@@ -19,5 +19,5 @@ returns c =
     record {
       answers = judged_admits c.args.bytes.now R.0 R.1 R.2 c.judge_listing.result A;
       typing = admission_is_typing c.args.bytes.now;
-      laid = judged_lays c.args.bytes.now R.0 R.1 R.2 c.judge_listing.result A (c.judge_listing.ensures.laid R.0 R.3);
+      words = judged_over c.args.bytes.now R.0 R.1 R.2 c.judge_listing.result A (c.judge_listing.ensures.words R.0 R.3);
     }

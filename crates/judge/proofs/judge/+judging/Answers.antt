@@ -8,13 +8,13 @@ use Rattle.lfpl.specs.Typing.{alike, type_at}
 use Rattle.tables.specs.Listed.{head_of}
 use Rattle.typing.specs.Codes.{Encodes, slot_types}
 use Rattle.judge.specs.Judging.{Poses, PosesAll, PosesArms, listed_nodes, arms_from}
-use Rattle.judge.specs.Laying.{LaidAll}
+use Rattle.judge.specs.Over.{NotedOverAll}
 use Rattle.typing.specs.Rules.{names_of}
 use Rattle.typing.specs.declared.codes.Slots.{Slots}
 use Rattle.typing.proofs.Coding.{row_length}
 use Rattle.typing.proofs.Masks.{shares_mask}
-use Rattle.judge.proofs.Passing.{code_narrow, row_narrow, inside, middle_is, end_is, known_parts, parts_few, parts_posed, known_subject, fit_is, early_unfit, arms_agree, goes_on, arms_posed, arms_many, whole_coded, passes, shared_test, faulted_by, none_pass, no_arms_noted, parts_pass, arms_pass, whole_laid, holding, held_laid}
-use Rattle.judge.proofs.Noting.{laid_noted_all, arms_laid_noted}
+use Rattle.judge.proofs.Passing.{code_narrow, row_narrow, inside, middle_is, end_is, known_parts, parts_few, parts_posed, known_subject, fit_is, early_unfit, arms_agree, goes_on, arms_posed, arms_many, whole_coded, passes, shared_test, faulted_by, none_pass, no_arms_noted, parts_pass, arms_pass, settled_over, holding, held_of_types}
+use Rattle.judge.proofs.Noting.{over_noted_all, arms_over_noted}
 use Rattle.typing.proofs.Scoping.{scope_length}
 use Rattle.judge.proofs.Standing.{no_node, no_slots, short_at, bound_length, in_scope, stands_small, at_node, at_first, at_none, parts_first, parts_none, arms_first, arms_none, all_at, extent}
 use Rattle.judge.proofs.Verdicts.{parts_fault, early_fault, arms_fault, types_fault, sharing_fault, judged, first_fault, rest_fault, first_arm_fault, other_arm_fault, no_arms_judged}
@@ -293,8 +293,8 @@ judge-returns t c =
     let both = and_parts _ _ all in
     let apart = sym h ∙ c.if-shared.false in
     let E = end_is _ _ _ ts fs Γ ps e j P _ N in
-    let L = c.in_ok-parts.ensures.laid ts fs Γ ps [] N.parts N.middle (parts_posed _ _ _ ts fs Γ ps e j P _ N _ ag _ is) (c.no_codes.ensures.encodes ts) Q.types Q.typed in
-    let K = c.in_ok-arms.ensures.laid ts fs Γ ps [] _ N.arms c.args.at j (arms_posed _ _ _ ts fs Γ ps e j P _ N _ ag Q.types c.fits-fit.result F _ _ T Q.ends) (c.no_codes-2.ensures.encodes ts) R.types R.typed in
+    let L = c.in_ok-parts.ensures.words ts fs Γ ps [] N.parts N.middle (parts_posed _ _ _ ts fs Γ ps e j P _ N _ ag _ is) (c.no_codes.ensures.encodes ts) Q.types Q.typed in
+    let K = c.in_ok-arms.ensures.words ts fs Γ ps [] _ N.arms c.args.at j (arms_posed _ _ _ ts fs Γ ps e j P _ N _ ag Q.types c.fits-fit.result F _ _ T Q.ends) (c.no_codes-2.ensures.encodes ts) R.types R.typed in
     passes ts fs Γ ps c.args.scope.over c.args.at j c.in_ok-parts.parts.end e (head_of ts _) N.parts N.arms N.is m (omega (arith, E.0, Q.ends))
     Q.types R.types _ c.args.notes.now c.judge_parts.new.notes c.judge_arms.new.notes g (omega arith) (omega arith)
     L Q.earlier K R.earlier both.0 both.1 apart
@@ -307,7 +307,7 @@ judge-returns t c =
     c.in_ok-arms.arms.end R.ends (let w = c.requires.low in let s = P.basis.short in omega arith) in
     record {
       answers = λ ts fs Γ ps e j P. (X ts fs Γ ps e j P).passed;
-      laid = λ ts fs Γ ps e j P. λ A h. whole_laid (X ts fs Γ ps e j P) A h;
+      words = λ ts fs Γ ps e j P. λ A h. settled_over (X ts fs Γ ps e j P) A h;
     }
 
 pub judge_arms-returns-then-arm-rule : goal.judge_arms-returns-then-arm-rule
@@ -318,8 +318,8 @@ judge_arms-returns-then-arm-rule t c =
     none_pass ts Ds _ es _ j _ _ _ Z.0 Z.1
     (no_arms_judged fs Γ w c.args.at es _ Z.0 (ap (map (slot_types B)) z)) (no_arms_noted ts fs _ es c.args.at _ Γ ps c.args.scope.over Z.0 (ap (map (slot_types B)) z)) D refl refl refl in
     record {
-      answers = λ ts fs Γ ps Ds B es w j P D. (let R = X ts fs Γ ps Ds B es w j P D in holding R (arms_laid_noted ts fs _ _ _ _ Γ ps c.args.scope.over R.types R.noted));
-      laid = λ ts fs Γ ps Ds B es w j P D. λ Bs h. held_laid (X ts fs Γ ps Ds B es w j P D) Bs h;
+      answers = λ ts fs Γ ps Ds B es w j P D. (let R = X ts fs Γ ps Ds B es w j P D in holding R (arms_over_noted ts fs _ _ _ _ Γ ps c.args.scope.over R.types R.noted));
+      words = λ ts fs Γ ps Ds B es w j P D. λ Bs h. held_of_types (X ts fs Γ ps Ds B es w j P D) Bs h;
     }
 
 pub judge_arms-extend_all-inner-requires : goal.judge_arms-extend_all-inner-requires
@@ -484,13 +484,13 @@ judge_arms-returns t c =
     let A = c.in_ok-first.ensures.answers ts fs _ _ F.first F.middle (record { basis = P.all.basis; scope = I; stands = st }) in
     let R = c.in_ok-rest.ensures.answers ts fs Γ ps _ B F.rest w j (record { all = record { basis = P.all.basis; scope = P.all.scope; stand = all_at (names_of ts fs) (listed_nodes c.args.listing.now) (map (λ (y : Slots). length Γ + y.count) (arms_from c.args.rule (c.args.arm + 1))) F.rest A.ends F.rest_stand }; code = P.code; full = P.full; short = P.short }) (c.push-more.ensures.encodes ts Ds A.type D A.code) in
     let y = c.judge_arms.auto.notes in
-    let L = c.in_ok-first.ensures.laid ts fs _ _ F.first F.middle (record { basis = P.all.basis; scope = I; stands = st }) A.type A.typed in
-    let K = (c.in_ok-rest.ensures.laid ts fs Γ ps _ B F.rest w j (record { all = record { basis = P.all.basis; scope = P.all.scope; stand = all_at (names_of ts fs) (listed_nodes c.args.listing.now) (map (λ (y : Slots). length Γ + y.count) (arms_from c.args.rule (c.args.arm + 1))) F.rest A.ends F.rest_stand }; code = P.code; full = P.full; short = P.short }) (c.push-more.ensures.encodes ts Ds A.type D A.code) R.types R.typed) in
+    let L = c.in_ok-first.ensures.words ts fs _ _ F.first F.middle (record { basis = P.all.basis; scope = I; stands = st }) A.type A.typed in
+    let K = (c.in_ok-rest.ensures.words ts fs Γ ps _ B F.rest w j (record { all = record { basis = P.all.basis; scope = P.all.scope; stand = all_at (names_of ts fs) (listed_nodes c.args.listing.now) (map (λ (y : Slots). length Γ + y.count) (arms_from c.args.rule (c.args.arm + 1))) F.rest A.ends F.rest_stand }; code = P.code; full = P.full; short = P.short }) (c.push-more.ensures.encodes ts Ds A.type D A.code) R.types R.typed) in
     (arms_pass ts fs Γ ps Ds c.args.at F.middle j c.args.scope.over F.first F.rest es c.args.notes.now c.judge.new.notes c.judge_arms.new.notes
-    c.in_ok-first.first c.in_ok-rest.rest F.is x.0 (omega arith) w c.extend_all-inner.result.over _ _ _ (ap (map (slot_types B)) z) O (record { passed = A; laid = L }) (holding R K)) in
+    c.in_ok-first.first c.in_ok-rest.rest F.is x.0 (omega arith) w c.extend_all-inner.result.over _ _ _ (ap (map (slot_types B)) z) O (record { passed = A; words = L }) (holding R K)) in
     rw c.joined.ensures (record {
-      answers = λ ts fs Γ ps Ds B es w j P D. (let R = X ts fs Γ ps Ds B es w j P D in holding R (arms_laid_noted ts fs _ _ _ _ Γ ps c.args.scope.over R.types R.noted));
-      laid = λ ts fs Γ ps Ds B es w j P D. λ Bs h. held_laid (X ts fs Γ ps Ds B es w j P D) Bs h;
+      answers = λ ts fs Γ ps Ds B es w j P D. (let R = X ts fs Γ ps Ds B es w j P D in holding R (arms_over_noted ts fs _ _ _ _ Γ ps c.args.scope.over R.types R.noted));
+      words = λ ts fs Γ ps Ds B es w j P D. λ Bs h. held_of_types (X ts fs Γ ps Ds B es w j P D) Bs h;
     })
 
 pub judge_parts-returns-then-count-eq0 : goal.judge_parts-returns-then-count-eq0
@@ -498,10 +498,10 @@ judge_parts-returns-then-count-eq0 t c =
     let X = λ (ts : List Ty) (fs : List Fun) (Γ : List Ty) (ps : List ℕ) (Ds : List Ty) (es : Exprs) (j : ℕ) (P : PosesAll c.args.listing.now c.args.scope (replicate c.args.count (length Γ)) c.args.at ts fs Γ ps es j) (D : Encodes ts c.args.done Ds).
     let Z = at_none (names_of ts fs) (listed_nodes c.args.listing.now) _ (parts_none c.args.count (length Γ) c.if-count-eq0.true) P.stand in
     none_pass ts Ds _ es _ j _ _ _ Z.0 Z.1 (ap (λ (x : Exprs). exprs_verdict fs x c.args.at Γ) Z.0)
-    (subst (λ (x : Exprs). LaidAll ts fs c.args.notes.now x c.args.at Γ ps c.args.scope.over []) (sym Z.0) tt) D refl refl refl in
+    (subst (λ (x : Exprs). NotedOverAll ts fs c.args.notes.now x c.args.at Γ ps c.args.scope.over []) (sym Z.0) tt) D refl refl refl in
     record {
-      answers = λ ts fs Γ ps Ds es j P D. (let R = X ts fs Γ ps Ds es j P D in holding R (laid_noted_all ts fs _ _ _ Γ ps c.args.scope.over R.types R.noted));
-      laid = λ ts fs Γ ps Ds es j P D. λ As h. held_laid (X ts fs Γ ps Ds es j P D) As h;
+      answers = λ ts fs Γ ps Ds es j P D. (let R = X ts fs Γ ps Ds es j P D in holding R (over_noted_all ts fs _ _ _ Γ ps c.args.scope.over R.types R.noted));
+      words = λ ts fs Γ ps Ds es j P D. λ As h. held_of_types (X ts fs Γ ps Ds es j P D) As h;
     }
 
 pub judge_parts-judge-requires : goal.judge_parts-judge-requires
@@ -609,11 +609,11 @@ judge_parts-returns t c =
     let o = c.raise-above.ensures.over ts A.type P.basis.typed A.code in
     let R = c.in_ok-rest.ensures.answers ts fs Γ ps _ F.rest j (record { basis = P.basis; scope = c.raise-above.ensures.scopes ts Γ ps P.scope; stand = all_at (names_of ts fs) (listed_nodes c.args.listing.now) (replicate (c.args.count - 1) (length Γ)) F.rest A.ends F.rest_stand }) (c.push-more.ensures.encodes ts Ds A.type D A.code) in
     let y = c.judge_parts.auto.notes in
-    let L = c.in_ok-first.ensures.laid ts fs Γ ps F.first F.middle (record { basis = P.basis; scope = P.scope; stands = F.first_stands }) A.type A.typed in
-    let K = c.in_ok-rest.ensures.laid ts fs Γ ps _ F.rest j (record { basis = P.basis; scope = c.raise-above.ensures.scopes ts Γ ps P.scope; stand = all_at (names_of ts fs) (listed_nodes c.args.listing.now) (replicate (c.args.count - 1) (length Γ)) F.rest A.ends F.rest_stand }) (c.push-more.ensures.encodes ts Ds A.type D A.code) R.types R.typed in
+    let L = c.in_ok-first.ensures.words ts fs Γ ps F.first F.middle (record { basis = P.basis; scope = P.scope; stands = F.first_stands }) A.type A.typed in
+    let K = c.in_ok-rest.ensures.words ts fs Γ ps _ F.rest j (record { basis = P.basis; scope = c.raise-above.ensures.scopes ts Γ ps P.scope; stand = all_at (names_of ts fs) (listed_nodes c.args.listing.now) (replicate (c.args.count - 1) (length Γ)) F.rest A.ends F.rest_stand }) (c.push-more.ensures.encodes ts Ds A.type D A.code) R.types R.typed in
     (parts_pass ts fs Γ ps Ds c.args.at F.middle j c.args.scope.over F.first F.rest es c.args.notes.now c.judge.new.notes c.judge_parts.new.notes
-    c.in_ok-first.first c.in_ok-rest.rest F.is x.0 (omega arith) c.raise-above.result.over (record { passed = A; laid = L }) o (holding R K)) in
+    c.in_ok-first.first c.in_ok-rest.rest F.is x.0 (omega arith) c.raise-above.result.over (record { passed = A; words = L }) o (holding R K)) in
     rw c.joined.ensures (record {
-      answers = λ ts fs Γ ps Ds es j P D. (let R = X ts fs Γ ps Ds es j P D in holding R (laid_noted_all ts fs _ _ _ Γ ps c.args.scope.over R.types R.noted));
-      laid = λ ts fs Γ ps Ds es j P D. λ As h. held_laid (X ts fs Γ ps Ds es j P D) As h;
+      answers = λ ts fs Γ ps Ds es j P D. (let R = X ts fs Γ ps Ds es j P D in holding R (over_noted_all ts fs _ _ _ Γ ps c.args.scope.over R.types R.noted));
+      words = λ ts fs Γ ps Ds es j P D. λ As h. held_of_types (X ts fs Γ ps Ds es j P D) As h;
     })

@@ -2,7 +2,7 @@ use Rattle.std.proofs.Common.{◌+◌, arith}
 use Rattle.std.proofs.lemmas.Result.{err_from_is_err_and}
 use Rattle.lfpl.specs.Typing.{fun_at}
 use Rattle.judge.specs.Admitting.{start_of}
-use Rattle.judge.proofs.Bodied.{upto_none, upto_more, upto_all, laid_all, body_posed, body_fault}
+use Rattle.judge.proofs.Bodied.{upto_none, upto_more, upto_all, bodies_over, body_posed, body_fault}
 use Rattle.judge.proofs.Passing.{faulted_by}
 use Rattle.judge.proofs.judge.judge_bodies.Goals as goal
 
@@ -29,7 +29,7 @@ returns-in_err-end c =
           (c.in_err-end.ensures.answers p.types p.functions (fun_at p.functions c.loop-f.f) (start_of p.functions (c.loop-f.f + 1))
           (body_posed c.args.listing.now p h c.loop-f.notes c.loop-f.starts c.loop-f.f c.loop-f.at (c.loop-f.invariant p h) c.loop-f-test.true))
           (body_fault c.args.listing.now p h c.loop-f.notes c.loop-f.starts c.loop-f.f c.loop-f.at (c.loop-f.invariant p h) c.loop-f-test.true);
-      laid = λ p h. tt;
+      words = λ p h. tt;
     })
 
 pub loop-f-preserved : goal.loop-f-preserved
@@ -40,11 +40,11 @@ loop-f-preserved c p h =
     c.judge_body.new.notes c.in_ok-end.end c.judge_body.auto.notes (omega arith)
     (c.in_ok-end.ensures.answers p.types p.functions (fun_at p.functions c.loop-f.f) (start_of p.functions (c.loop-f.f + 1))
     (body_posed c.args.listing.now p h c.loop-f.notes c.loop-f.starts c.loop-f.f c.loop-f.at (c.loop-f.invariant p h) c.loop-f-test.true))
-    (c.in_ok-end.ensures.laid p.types p.functions (fun_at p.functions c.loop-f.f) (start_of p.functions (c.loop-f.f + 1))
+    (c.in_ok-end.ensures.words p.types p.functions (fun_at p.functions c.loop-f.f) (start_of p.functions (c.loop-f.f + 1))
     (body_posed c.args.listing.now p h c.loop-f.notes c.loop-f.starts c.loop-f.f c.loop-f.at (c.loop-f.invariant p h) c.loop-f-test.true))
 
 pub returns : goal.returns
 returns c = record {
   answers = λ p h. upto_all c.args.listing.now p h c.loop-f.notes c.loop-f.starts c.loop-f.f c.loop-f.at (c.loop-f.invariant p h) c.loop-f-test.false;
-  laid = λ p h. laid_all c.args.listing.now p h c.loop-f.notes c.loop-f.starts c.loop-f.f c.loop-f.at (c.loop-f.invariant p h) c.loop-f-test.false;
+  words = λ p h. bodies_over c.args.listing.now p h c.loop-f.notes c.loop-f.starts c.loop-f.f c.loop-f.at (c.loop-f.invariant p h) c.loop-f-test.false;
 }

@@ -9,7 +9,7 @@ use Rattle.judge.specs.Admitting.{PosesBody}
 use Rattle.typing.specs.Codes.{Coded}
 use Rattle.judge.specs.Notes.{widths}
 use Rattle.typing.proofs.Coding.{codes_tell}
-use Rattle.judge.proofs.Noting.{laid_body}
+use Rattle.judge.proofs.Noting.{over_noted_body}
 use Rattle.judge.proofs.Passing.{row_narrow, faulted_by, body_noted}
 use Rattle.judge.proofs.judge.judge_body.Goals as goal
 
@@ -62,7 +62,7 @@ returns c =
     let z = c.no_variables.ensures.over in
     let o = c.extend_all-scope.ensures.over ts g.params P.basis.typed K in
     let w : c.extend_all-scope.result.over ≡ widths g.params = omega arith in
-    let L = c.in_ok-found.ensures.laid ts fs g.params _ g.body j (record { basis = P.basis; scope = I ts fs g j P; stands = P.stands }) F.type F.typed in
+    let L = c.in_ok-found.ensures.words ts fs g.params _ g.body j (record { basis = P.basis; scope = I ts fs g j P; stands = P.stands }) F.type F.typed in
     body_noted ts fs _ g.body c.args.at g.params c.no_variables.result.over c.extend_all-scope.result.over F.type g.result z w (same_eq F.type g.result (s ts fs g j P)) L in
     record {
       answers = λ ts fs g j P. (
@@ -70,8 +70,8 @@ returns c =
           record {
             typed = ap (λ (v : Verdict Ty). v >>= λ A. demand (same_ty A g.result) TypeFault c.args.at tt) F.typed ∙ ap (λ (b : Bool). demand b TypeFault c.args.at tt) (s ts fs g j P);
             ends = F.ends;
-            noted = laid_body ts fs _ g c.args.at (X ts fs g j P);
+            noted = over_noted_body ts fs _ g c.args.at (X ts fs g j P);
             earlier = F.earlier;
           });
-      laid = λ ts fs g j P. X ts fs g j P;
+      words = λ ts fs g j P. X ts fs g j P;
     }

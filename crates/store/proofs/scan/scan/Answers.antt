@@ -27,7 +27,7 @@ loop-next-init c =
     let n : room c.new-pile.result ≡ 7696 = search rules in
     let e = pushed (held c.new-pile.result) (held c.push.new.self) c.args.t (room c.new-pile.result) c.push.result c.push.ensures.fits c.push.ensures.held c.new-pile.ensures.held n in (
       sofar_none c.args.entries.now c.args.bytes.now c.args.t c.min-most.result (held c.push.new.self) c.new-cursor.result c.requires.listed c.requires.known
-          (omega (arith, c.min-most.ensures)) e c.new-cursor.ensures.0 c.new-cursor.ensures.1.0 c.new-cursor.ensures.1.1,
+          (omega (arith, c.min-most.ensures)) e c.new-cursor.ensures.bytes c.new-cursor.ensures.place c.new-cursor.ensures.part,
       c.push.ensures.sound,
       c.push.ensures.room ∙ n,
     )
