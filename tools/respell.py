@@ -112,8 +112,8 @@ def respelled(name, uses):
 USE = re.compile(r"use (?P<path>[^{};]*?)\.\{(?P<names>[^}]*)\}")
 
 
-def imported(own):
-    """The names that are imported from crates of this repository, or from elsewhere, and the names that an `as` gives."""
+def imported():
+    """The names that are imported from outside this repository, which stay, and the names that an `as` gives."""
     outside, aliases = set(), set()
     ours = {os.path.basename(c) for c in glob.glob("crates/*")}
     for p in files("*/specs/**/*.antt", "*/proofs/**/*.antt", "*/src/*.rt"):
@@ -126,17 +126,17 @@ def imported(own):
                     aliases.add(parts[1].strip())
                 if not inside:
                     outside.add(parts[0].strip())
-    return aliases if own else outside
+    return outside, aliases
 
 
 def mapping():
     names = {}
-    outside = imported(False)
+    outside, aliases = imported()
     for name, uses in declared().items():
         if GOOD.fullmatch(name) or name in outside or any(u is None for u in uses):
             continue
         names[name] = respelled(name, uses)
-    for name in imported(True):
+    for name in aliases:
         if re.search("[a-z]", name) and not GOOD.fullmatch(name) and name not in names and name not in outside:
             names[name] = respelled(name, [("", "x", "")])
     names.update((a, b) for a, b in CHOSEN.items() if a not in names and a not in outside)
