@@ -1,14 +1,17 @@
 -- Cells in a list of words: what a change of one cell's words does to the pool.
-use Rattle.std.proofs.Common.{◌≡◌, ℕ, zero, suc, ◌+◌, ◌-◌, ◌*◌, ◌/◌, ◌<◌, ◌≤◌, min, true, false, cond, not, ◌&&◌, eqb, ltb, ◌≢◌, List, [], ◌∷◌, ◌++◌, length, get_or, take, drop, set, replicate, is_some, Some, None, count_by, Option, unwrap_or, sym, refl, ap, ◌∙◌, subst, ⊎_elim, arith, lit≤, below_more}
+use Rattle.std.proofs.Common.{◌≡◌, ℕ, zero, suc, ◌+◌, ◌-◌, ◌*◌, ◌/◌, ◌<◌, ◌≤◌, min, true, false, cond, not, ◌&&◌, eqb, ltb, ◌≢◌, List, [], ◌∷◌, ◌++◌, length, get_or, take, drop, set, replicate, is_some, Some, None, count_by, Option, unwrap_or, sym, refl, ap, ◌∙◌, subst, ⊎_elim, arith, lit≤, lit<, below_more}
 use lib.Seq.{paste, take-set-lt}
-use Rattle.std.specs.List.{AllByRecursion}
-use Rattle.std.proofs.lemmas.List.Edits.{length-paste}
-use Rattle.std.proofs.lemmas.List.{take_all, get_or_append_left, get_or-append_right, length-append, drop-set-add, length-set, length-take, length-take-le, length-drop, get_or-take, get_or-drop, ext_get_or, get_or-set_same, get_or-set_other, length-replicate, get_or-replicate}
+use Rattle.std.specs.List.{AllByRecursion, position, position_from}
+use Rattle.std.specs.Simd.{first_chunks}
+use Rattle.std.proofs.lemmas.List.Edits.{length-paste, paste_none, paste_more}
+use Rattle.std.proofs.lemmas.List.{get_or_append_left, get_or-append_right, length-append, drop-drop, drop-set-add, length-set, length-take, length-take-le, length-drop, get_or-take, get_or-drop, ext_get_or, get_or-set_same, get_or-set_other, length-replicate, get_or-replicate}
 use Rattle.std.proofs.ByRecursion.{All-from_get_or}
-use Rattle.std.proofs.lemmas.List.Sums.{sum_by-set, sum_by-cons, count_by_more_yes, count_by_more_no}
-use Rattle.std.proofs.lemmas.Bool.{lt-ltb, cases_eq, cases_lt, eq-eqb, ne_eqb, true≢false}
+use Rattle.std.proofs.lemmas.List.Sums.{sum_by-set, sum_by-cons}
+use Rattle.std.proofs.lemmas.Bool.{lt-ltb, le-ltb, eqb-true, cases_eq, cases_lt, eq-eqb, ne_eqb, true≢false}
+use Rattle.std.proofs.lemmas.List.Quantifiers.{position-Some}
+use Rattle.std.proofs.lemmas.Iterator.Adapters.{position_from-zero}
 use Rattle.pool.specs.Pools.{Cell, limit, held, zeros, placed, all_free, Takes, Gives, word_at, Writes}
-use Rattle.pool.specs.Words.{cells_of, mark_of, cell_of, in_words, is_free, words_mean, leftover, Placed, Vacant, Found}
+use Rattle.pool.specs.Words.{cells_of, mark_of, cell_of, in_words, is_free, words_mean, leftover, cells_in, unmarked, Placed, Found}
 use Rattle.pool.specs.Lawfulness.{cells_fit, length_in, get_or_in}
 use Rattle.pool.proofs.Laws.{held_is, held_past, same_meaning, takes_cell, gives, word_taken, writes}
 
@@ -28,6 +31,9 @@ free_cell ws i e = ap (λ b. cond b None (Some (take 16 (drop (17 * i + 1) ws)))
 
 taken_cell : (ws : List ℕ) (i : ℕ) → (mark_of ws i ≡ 0 → ⊥) → cell_of ws i ≡ Some (take 16 (drop (17 * i + 1) ws))
 taken_cell ws i e = ap (λ b. cond b None (Some (take 16 (drop (17 * i + 1) ws)))) (ne_eqb (mark_of ws i) 0 e)
+
+free_marked : (ws : List ℕ) (i : ℕ) → eqb (mark_of ws i) 0 ≡ is_free (cell_of ws i)
+free_marked ws i = elim (eqb (mark_of ws i) 0) as (λ b. b ≡ is_free (cond b None (Some (take 16 (drop (17 * i + 1) ws))))) [ true ↦ refl | false ↦ refl ]
 
 taken_mark : (ws : List ℕ) (i : ℕ) → is_some (cell_of ws i) ≡ true → mark_of ws i ≡ 0 → ⊥
 taken_mark ws i t e = true≢false (sym t ∙ ap is_some (free_cell ws i e))
@@ -115,17 +121,19 @@ frame_set ws i at v low high = record {
 pub place_past : (ws : List ℕ) (n : ℕ) → 1 ≤ n → cells_of ws ≤ n - 1 → Placed ws n None
 place_past ws n h l = record { cases = ap is_some (held_past (words_mean ws) n (omega (arith, limit_words ws))) }
 
-pub place_free : (ws : List ℕ) (n at : ℕ) → at ≡ 17 * (n - 1) → 1 ≤ n → n - 1 < cells_of ws → get_or ws at 0 ≡ 0 → Placed ws n None
-place_free ws n at a h l e = record { cases = ap is_some (held_in ws n h l ∙ free_cell ws (n - 1) (ap (λ x. get_or ws x 0) (sym a) ∙ e)) }
+pub place_free : (ws : List ℕ) (n i : ℕ) → n ≡ i + 1 → i < cells_of ws → mark_of ws i ≡ 0 → Placed ws n None
+place_free ws n i a l e = record {
+  cases = ap is_some (held_in ws n (omega arith) (omega arith) ∙ free_cell ws (n - 1) (ap (mark_of ws) (let b : n - 1 ≡ i = omega arith in b) ∙ e));
+}
 
-pub place_taken : (ws : List ℕ) (n at : ℕ) → at ≡ 17 * (n - 1) → 1 ≤ n → n - 1 < cells_of ws → (get_or ws at 0 ≡ 0 → ⊥) → Placed ws n (Some at)
-place_taken ws n at a h l e = record {
+pub place_taken : (ws : List ℕ) (n i : ℕ) → n ≡ i + 1 → i < cells_of ws → (mark_of ws i ≡ 0 → ⊥) → Placed ws n (Some (17 * i))
+place_taken ws n i a l e = record {
   cases = (
-    a,
-    h,
-    l,
-    omega (arith, cells_fit ws (n - 1) l),
-    ap is_some (held_in ws n h l ∙ taken_cell ws (n - 1) (λ z. e (ap (λ x. get_or ws x 0) a ∙ z))),
+    omega arith,
+    omega arith,
+    omega arith,
+    omega (arith, cells_fit ws i l),
+    ap is_some (held_in ws n (omega arith) (omega arith) ∙ taken_cell ws (n - 1) (λ z. e (ap (mark_of ws) (let b : i ≡ n - 1 = omega arith in b) ∙ z))),
   );
 }
 
@@ -147,15 +155,84 @@ unfolding words_mean
 none_free ws h = count_none (in_words ws) (All-from_get_or (λ c. is_free c ≡ false) (in_words ws) None
     (λ i l. let k : i < cells_of ws = omega (arith, length_in ws) in ap is_free (get_or_in ws i k ∙ taken_cell ws i (h i k))))
 
-pub found : (ws : List ℕ) (from upto i : ℕ) → upto ≤ cells_of ws → Vacant ws from upto (Some i) → Found ws (Some i)
-found ws from upto i h v = let l : i < cells_of ws = omega (arith, v.cases.1) in record { cases = (l, cells_fit ws i l, v.cases.2) }
+-- the cell at place i as it lies
+chunk_at : (k i : ℕ) (ws : List ℕ) (d : List ℕ) → i < k → get_or (first_chunks 17 k ws) i d ≡ take 17 (drop (17 * i) ws)
+chunk_at zero i ws d h = absurd (omega arith)
+chunk_at (suc k) zero ws d h = refl
+chunk_at (suc k) (suc i) ws d h =
+    chunk_at k i (drop 17 ws) d (omega arith) ∙ ap (take 17) (drop-drop (17 * i) 17 ws ∙ ap (λ j. drop j ws) (let e : 17 + 17 * i ≡ 17 * suc i = omega arith in e))
 
-pub found_round : (ws : List ℕ) (start all : ℕ) (r : Option ℕ) → all ≡ cells_of ws → start ≤ all → Vacant ws start all None → Vacant ws 0 start r → Found ws r
-found_round ws start all (Some i) e h high low = found ws 0 start i (omega arith) low
-found_round ws start all None e h high low = record {
-  cases = none_free ws (λ k l.
-      ⊎_elim (λ b. low.cases k (omega arith) b) (λ a. high.cases k a (omega arith)) (cases_lt k start));
-}
+length_chunks : (k : ℕ) (ws : List ℕ) → length (first_chunks 17 k ws) ≡ k
+length_chunks zero ws = refl
+length_chunks (suc k) ws = ap suc (length_chunks k (drop 17 ws))
+
+take_chunks : (j k : ℕ) (ws : List ℕ) → j ≤ k → take j (first_chunks 17 k ws) ≡ first_chunks 17 j ws
+take_chunks zero k ws h = refl
+take_chunks (suc j) zero ws h = absurd (omega arith)
+take_chunks (suc j) (suc k) ws h = ap (λ cs. take 17 ws ∷ cs) (take_chunks j k (drop 17 ws) (omega arith))
+
+pub cells_from : (ws : List ℕ) (k : ℕ) (cs : List (List ℕ)) → cs ≡ first_chunks 17 (length ws / 17) ws → k ≡ cells_of ws → take k cs ≡ cells_in ws
+cells_from ws k cs e h = ap (take k) e ∙ take_chunks k (length ws / 17) ws (omega arith) ∙ ap (λ j. first_chunks 17 j ws) h
+
+-- .. and its mark
+pub chunk_mark : (ws : List ℕ) (i : ℕ) (d : List ℕ) → i < cells_of ws → get_or (get_or (cells_in ws) i d) 0 0 ≡ mark_of ws i
+chunk_mark ws i d h =
+    ap (λ c. get_or c 0 0) (chunk_at (cells_of ws) i ws d h) ∙ get_or-take 17 (drop (17 * i) ws) 0 0 (lit< tt) ∙ get_or-drop (17 * i) ws 0 0 ∙ sym (mark_in ws i)
+
+pub mark_read : (ws : List ℕ) (cs : List (List ℕ)) (i : ℕ) (c : List ℕ) → cs ≡ cells_in ws → i < cells_of ws → c ≡ get_or cs i c → get_or c 0 0 ≡ mark_of ws i
+mark_read ws cs i c e h is = ap (λ x. get_or x 0 0) (is ∙ ap (λ l. get_or l i c) e) ∙ chunk_mark ws i c h
+
+-- `find`
+none_from : (n : ℕ) (cs : List (List ℕ)) → position_from unmarked n cs ≡ None → (k : ℕ) → k < length cs → unmarked (get_or cs k []) ≡ false
+none_from n [] e k h = absurd (omega arith)
+none_from n (c ∷ cs) e zero h =
+    elim (unmarked c) as (λ b. cond b (Some n) (position_from unmarked (n + 1) cs) ≡ None → b ≡ false) [ true ↦ λ z. cc | false ↦ λ _. refl ] e
+none_from n (c ∷ cs) e (suc k) h =
+    let o : Option ℕ = position_from unmarked (n + 1) cs in
+    none_from (n + 1) cs (elim (unmarked c) as (λ b. cond b (Some n) o ≡ None → o ≡ None) [ true ↦ λ z. cc | false ↦ λ z. z ] e) k (omega arith)
+
+module _ (ws : List ℕ) (cs : List (List ℕ)) (is : cs ≡ cells_in ws) (start : ℕ) (in' : start ≤ cells_of ws) where
+  long : length cs ≡ cells_of ws
+  long = ap length is ∙ length_chunks (cells_of ws) ws
+
+  -- what is found in the one part or the other
+  pub found_after : (i : ℕ) → Some i ≡ position unmarked (drop start cs) → Found ws (Some (start + i))
+  found_after i e =
+      let p = position-Some unmarked (drop start cs) i [] (sym e) in
+      let l : start + i < cells_of ws = omega (arith, p.0, length-drop start cs, long) in
+      record {
+        cases = (
+          l,
+          cells_fit ws (start + i) l,
+          sym (chunk_mark ws (start + i) [] l) ∙ ap (λ x. get_or (get_or x (start + i) []) 0 0) (sym is) ∙ ap (λ c. get_or c 0 0) (sym (get_or-drop start cs i [])) ∙ eqb-true _ _ p.1,
+        );
+      }
+
+  pub found_before : (r : Option ℕ) → None ≡ position unmarked (drop start cs) → r ≡ position unmarked (take start cs) → Found ws r
+  found_before (Some i) n e =
+      let p = position-Some unmarked (take start cs) i [] (sym e) in
+      let short : i < start = omega (arith, p.0, length-take start cs) in
+      let l : i < cells_of ws = omega arith in
+      record {
+        cases = (
+          l,
+          cells_fit ws i l,
+          sym (chunk_mark ws i [] l) ∙ ap (λ x. get_or (get_or x i []) 0 0) (sym is) ∙ ap (λ c. get_or c 0 0) (sym (get_or-take start cs i [] short)) ∙ eqb-true _ _ p.1,
+        );
+      }
+  found_before None n e =
+      record {
+        cases = none_free ws (λ k l z.
+            let mark : get_or (get_or cs k []) 0 0 ≡ 0 = ap (λ x. get_or (get_or x k []) 0 0) is ∙ chunk_mark ws k [] l ∙ z in
+            let free : unmarked (get_or cs k []) ≡ true = eq-eqb _ _ mark in
+            true≢false (sym free ∙ ⊎_elim
+            (λ (b : k < start). ap unmarked (sym (get_or-take start cs k [] b)) ∙ none_from 0 (take start cs) (sym (position_from-zero unmarked (take start cs)) ∙ sym e) k (omega (arith, length-take start cs, long)))
+            (λ (a : start ≤ k).
+            let at : start + (k - start) ≡ k = omega arith in
+            ap (λ j. unmarked (get_or cs j [])) (sym at) ∙ ap unmarked (sym (get_or-drop start cs (k - start) []))
+            ∙ none_from 0 (drop start cs) (sym (position_from-zero unmarked (drop start cs)) ∙ sym n) (k - start) (omega (arith, length-drop start cs, long)))
+            (cases_lt k start)));
+      }
 
 -- words pasted over others: those pasted, those before, those after
 get_or_mid : (d : List ℕ) (at : ℕ) (s : List ℕ) (n j : ℕ) → at + n ≤ length d → n ≤ length s → j < n → get_or (paste d at s n) (at + j) 0 ≡ get_or s j 0
@@ -229,13 +306,21 @@ take_words ws ws' i f is =
       leftover_kept ws new i (fresh_frame ws i h) l,
     )
 
+-- one word pasted over another
+paste_one : (ws : List ℕ) (at v : ℕ) → at < length ws → paste ws at (v ∷ []) 1 ≡ set ws at v
+paste_one ws at v h =
+    sym (paste_more ws at (v ∷ []) 0 0 (omega arith) (lit< tt)) ∙ ap (λ x. set x (at + 0) v) (sym (paste_none ws at (v ∷ [])))
+    ∙ ap (λ i. set ws i v) (let e : at + 0 ≡ at = omega arith in e)
+
 -- `give`
-pub give_words : (ws : List ℕ) (n at : ℕ) → Placed ws n (Some at) → Gives (words_mean ws) n true (words_mean (set ws at 0)) × (leftover (set ws at 0) ≡ leftover ws)
-give_words ws n at p =
+pub give_words : (ws ws' : List ℕ) (n at : ℕ) → Placed ws n (Some at) → ws' ≡ paste ws at (0 ∷ []) 1
+    → Gives (words_mean ws) n true (words_mean ws') × (leftover ws' ≡ leftover ws)
+give_words ws ws' n at p is =
     let i = n - 1 in
     let a : at ≡ 17 * i = p.cases.0 in
     let f : Frame ws (set ws at 0) i = frame_set ws i at 0 (omega arith) (omega arith) in
-    let mark : mark_of (set ws at 0) i ≡ 0 = ap (λ x. get_or (set ws at 0) x 0) (sym a) ∙ get_or-set_same ws at 0 0 (omega (arith, p.cases.3)) in (
+    let mark : mark_of (set ws at 0) i ≡ 0 = ap (λ x. get_or (set ws at 0) x 0) (sym a) ∙ get_or-set_same ws at 0 0 (omega (arith, p.cases.3)) in
+    rw (is, paste_one ws at 0 (omega (arith, p.cases.3))) (
       gives _ _ _ _ (sym p.cases.4) (changes ws (set ws at 0) n ((words_mean ws).free + 1) (held (words_mean ws) n) None f p.cases.1 p.cases.2 refl (free_cell (set ws at 0) i mark)
           (ap (λ b. (words_mean ws).free + 1 + cond (not b) 1 0) p.cases.4 ∙ omega arith)),
       leftover_kept ws (set ws at 0) i f p.cases.2,
@@ -249,15 +334,29 @@ held_words ws n at p =
     e ∙ taken_cell ws i (taken_mark ws i (sym (ap is_some e) ∙ p.cases.4)) ∙ ap (λ x. Some (take 16 (drop (x + 1) ws))) (sym p.cases.0)
 
 -- `read`
-pub read_words : (ws : List ℕ) (n at k : ℕ) → Placed ws n (Some at) → k < 16 → Some (get_or ws (at + 1 + k) 0) ≡ word_at (words_mean ws) n k
-read_words ws n at k p l =
-    ap Some (sym (get_or-take 16 (drop (at + 1) ws) k 0 l ∙ get_or-drop (at + 1) ws k 0))
-    ∙ sym (word_taken (words_mean ws) n k (take 16 (drop (at + 1) ws)) (held_words ws n at p) l)
+pub read_none : (ws : List ℕ) (n k : ℕ) → Placed ws n None → None ≡ word_at (words_mean ws) n k
+read_none ws n k p = rw p.cases refl
+
+pub read_past : (ws : List ℕ) (n k : ℕ) → 16 ≤ k → None ≡ word_at (words_mean ws) n k
+read_past ws n k h =
+    let r : Option ℕ = Some (get_or (unwrap_or (held (words_mean ws) n) []) k 0) in
+    let f : ltb k 16 ≡ false = le-ltb k 16 h in
+    rw f (elim (is_some (held (words_mean ws) n)) as (λ b. None ≡ cond (b && false) r None) [ true ↦ refl | false ↦ refl ])
+
+pub read_lying : (ws : List ℕ) (cs : List (List ℕ)) (n i k : ℕ) (c : List ℕ) → cs ≡ cells_in ws → i < cells_of ws → c ≡ get_or cs i c → n ≡ i + 1 → (get_or c 0 0 ≡ 0 → ⊥) → k < 16
+    → Some (get_or c (k + 1) 0) ≡ word_at (words_mean ws) n k
+read_lying ws cs n i k c e h is a t l =
+    let m = mark_read ws cs i c e h is in
+    let p = place_taken ws n i a h (λ z. t (m ∙ z)) in
+    let w : get_or c (k + 1) 0 ≡ get_or ws (17 * i + (1 + k)) 0 =
+    ap (λ x. get_or x (k + 1) 0) (is ∙ ap (λ l. get_or l i c) e ∙ chunk_at (cells_of ws) i ws c h) ∙ get_or-take 17 (drop (17 * i) ws) (k + 1) 0 (omega arith)
+    ∙ get_or-drop (17 * i) ws (k + 1) 0 ∙ ap (λ x. get_or ws x 0) (let z : 17 * i + (k + 1) ≡ 17 * i + (1 + k) = omega arith in z) in
+    ap Some (w ∙ sym (word_in ws i k l)) ∙ sym (word_taken (words_mean ws) n k (take 16 (drop (17 * i + 1) ws)) (held_words ws n (17 * i) p) l)
 
 -- `write`
-pub write_words : (ws : List ℕ) (n at k w : ℕ) → Placed ws n (Some at) → k < 16
-    → Writes (words_mean ws) n k w true (words_mean (set ws (at + 1 + k) w)) × (leftover (set ws (at + 1 + k) w) ≡ leftover ws)
-write_words ws n at k w p l =
+pub write_words : (ws ws' : List ℕ) (n at k w : ℕ) → Placed ws n (Some at) → k < 16 → ws' ≡ paste ws (at + 1 + k) (w ∷ []) 1
+    → Writes (words_mean ws) n k w true (words_mean ws') × (leftover ws' ≡ leftover ws)
+write_words ws ws' n at k w p l is' =
     let i = n - 1 in
     let new = set ws (at + 1 + k) w in
     let a : at ≡ 17 * i = p.cases.0 in
@@ -269,7 +368,8 @@ write_words ws n at k w p l =
     ap (λ x. take 16 (drop (x + 1) new)) (sym a) ∙ ap (take 16) (drop-set-add (at + 1) ws k w) ∙ take-set-lt 16 (drop (at + 1) ws) k w l in
     let c : Cell = Some (set (unwrap_or (held (words_mean ws) n) []) k w) in
     let is : cell_of new i ≡ c =
-    taken_cell new i (λ z. full (sym mark ∙ z)) ∙ ap Some words ∙ ap (λ x. Some (set (unwrap_or x []) k w)) (sym (held_words ws n at p)) in (
+    taken_cell new i (λ z. full (sym mark ∙ z)) ∙ ap Some words ∙ ap (λ x. Some (set (unwrap_or x []) k w)) (sym (held_words ws n at p)) in
+    rw (is', paste_one ws (at + 1 + k) w (omega (arith, p.cases.3))) (
       writes _ _ _ _ _ _ (sym (ap (λ b. b && ltb k 16) p.cases.4 ∙ lt-ltb k 16 l))
           (changes ws new n (words_mean ws).free (held (words_mean ws) n) c f p.cases.1 p.cases.2 refl is (ap (λ b. (words_mean ws).free + cond (not b) 1 0) p.cases.4)),
       leftover_kept ws new i f p.cases.2,
@@ -306,14 +406,20 @@ pub own_clear : words_mean (replicate 1088 0) ≡ all_free 64
 own_clear = all_clear (replicate 1088 0) (replicate 1088 0) refl (λ k h. get_or-replicate 1088 (17 * k) 0 0 (let l : k < 64 = h in omega arith))
 
 -- `count`
-pub count_step : (ws : List ℕ) (i n : ℕ) → i < cells_of ws → n ≡ count_by is_free (take i (in_words ws)) → mark_of ws i ≡ 0 → n + 1 ≡ count_by is_free (take (i + 1) (in_words ws))
-count_step ws i n l e h =
-    ap (λ x. x + 1) e ∙ sym (count_by_more_yes is_free (in_words ws) i None (omega (arith, length_in ws)) (ap is_free (get_or_in ws i l ∙ free_cell ws i h)))
+count_same : (cs : List (List ℕ)) (ds : List Cell) → length cs ≡ length ds → ((i : ℕ) → i < length cs → unmarked (get_or cs i []) ≡ is_free (get_or ds i None))
+    → count_by unmarked cs ≡ count_by is_free ds
+count_same [] [] l h = refl
+count_same [] (d ∷ ds) l h = absurd (omega arith)
+count_same (c ∷ cs) [] l h = absurd (omega arith)
+count_same (c ∷ cs) (d ∷ ds) l h =
+    let one : cond (unmarked c) 1 0 ≡ spare d = ap (λ b. cond b 1 0) (h 0 (omega arith)) in
+    let rest = count_same cs ds (omega arith) (λ i k. h (suc i) (omega arith)) in
+    omega (arith, one, rest, sum_by-cons (λ x. cond (unmarked x) 1 0) c cs, sum_by-cons spare d ds)
 
-pub count_skip : (ws : List ℕ) (i n : ℕ) → i < cells_of ws → n ≡ count_by is_free (take i (in_words ws)) → (mark_of ws i ≡ 0 → ⊥) → n ≡ count_by is_free (take (i + 1) (in_words ws))
-count_skip ws i n l e h =
-    e ∙ sym (count_by_more_no is_free (in_words ws) i None (omega (arith, length_in ws)) (ap is_free (get_or_in ws i l ∙ taken_cell ws i h)))
-
-pub count_done : (ws : List ℕ) (i n : ℕ) → cells_of ws ≤ i → n ≡ count_by is_free (take i (in_words ws)) → n ≡ (words_mean ws).free
+pub count_cells : (ws : List ℕ) (cs : List (List ℕ)) → cs ≡ cells_in ws → count_by unmarked cs ≡ (words_mean ws).free
 unfolding words_mean
-count_done ws i n l e = e ∙ ap (count_by is_free) (take_all i (in_words ws) (omega (arith, length_in ws)))
+count_cells ws cs is =
+    ap (count_by unmarked) is ∙ count_same (cells_in ws) (in_words ws) (length_chunks (cells_of ws) ws ∙ sym (length_in ws))
+    (λ i l.
+    let k : i < cells_of ws = omega (arith, length_chunks (cells_of ws) ws) in
+    ap (λ m. eqb m 0) (chunk_mark ws i [] k) ∙ free_marked ws i ∙ ap is_free (sym (get_or_in ws i k)))

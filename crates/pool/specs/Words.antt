@@ -1,6 +1,7 @@
 -- Cells in a list of words: each is a mark, 0 while the cell is free, and then its sixteen words.
-use Rattle.std.specs.Prelude.{◌≡◌, ℕ, ◌+◌, ◌-◌, ◌*◌, ◌/◌, ◌<◌, ◌≤◌, min, Bool, true, false, cond, not, List, map, length, take, drop, is_some, Some, None, count_by, Option, MatchOption, ◌==◌, ◌≢◌, slice_index}
+use Rattle.std.specs.Prelude.{◌≡◌, ℕ, ◌+◌, ◌-◌, ◌*◌, ◌/◌, ◌<◌, ◌≤◌, min, Bool, true, false, cond, not, List, map, length, take, drop, is_some, Some, None, count_by, Option, MatchOption, ◌==◌, slice_index}
 use Rattle.std.specs.List.{range_with_len}
+use Rattle.std.specs.Simd.{first_chunks}
 use Rattle.pool.specs.Pools.{Cell, Meaning, is_taken}
 
 -- how many cells the words make: one for each seventeen, at most 512
@@ -31,13 +32,17 @@ words_mean ws = record { cells = in_words ws; free = count_by is_free (in_words 
 abbrev pub leftover : List ℕ → List ℕ
 leftover ws = drop (17 * cells_of ws) ws
 
+-- the cells as they lie, each a mark and sixteen words
+abbrev pub cells_in : List ℕ → List (List ℕ)
+cells_in ws = first_chunks 17 (cells_of ws) ws
+
+-- whether a cell that lies there is marked as free
+abbrev pub unmarked : List ℕ → Bool
+unmarked c = slice_index c 0 == 0
+
 -- r is where the mark of the taken cell n stands; none if n is not taken
 pub record Placed (ws : List ℕ) (n : ℕ) (r : Option ℕ) : Type 0 where
   pub cases : MatchOption r (is_taken (words_mean ws) n ≡ false) (λ at. (at ≡ 17 * (n - 1)) × (1 ≤ n) × (n - 1 < cells_of ws) × (at + 17 ≤ length ws) × (is_taken (words_mean ws) n ≡ true))
-
--- r is the place of a free cell among those from one place up to another; none if there is no such cell
-pub record Vacant (ws : List ℕ) (from upto : ℕ) (r : Option ℕ) : Type 0 where
-  pub cases : MatchOption r ((k : ℕ) → from ≤ k → k < upto → mark_of ws k ≢ 0) (λ i. (from ≤ i) × (i < upto) × (mark_of ws i ≡ 0))
 
 -- r is the place of a free cell; none if there is none
 pub record Found (ws : List ℕ) (r : Option ℕ) : Type 0 where

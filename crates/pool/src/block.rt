@@ -1,77 +1,46 @@
 //! The block pool: a block of words that is lent to it, divided into cells.
 
-ghost use Rattle.std.specs.Prelude.{◌≡◌};
-ghost use Rattle.pool.specs.Pools.{Takes, Gives, Writes, all_free};
+ghost use Rattle.std.specs.Prelude.{◌≡◌, refl};
+ghost use Rattle.pool.specs.Pools.{all_free};
 ghost use Rattle.pool.specs.Words.{words_mean, cells_of, leftover};
-ghost use Rattle.pool.specs.Lawfulness.{lawful_words};
 
-use crate::{Pool, cells};
+use crate::cells::{CellPool, FREE, STRIDE, Words, cells};
 
 /// A pool in a block of words. Every seventeen words make a cell, at most 512 cells; words left over are never written.
-#[derive(Drop)]
-pub struct BlockPool<'a> {
-    block: &'a mut [u32],
-    // a guess at a free cell's place, from 0, where the search for one begins
-    next: usize,
-}
+pub type BlockPool<'a> = CellPool<&'a mut [u32]>;
 
 impl<'a> BlockPool<'a> {
     /// The block as a pool, every cell free, whatever the words were.
     pub fn new(block: &'a mut [u32]) -> BlockPool<'a>
-        ensures all { words_mean result.block.now ≡ all_free (cells_of block.old) }
-        ensures rest { leftover result.block.now ≡ leftover block.old }
-        ensures named { result.block.ghost_name ≡ block.entry.ghost_name }
+        ensures all { words_mean result.words.now ≡ all_free (cells_of block.old) }
+        ensures rest { leftover result.words.now ≡ leftover block.old }
+        ensures named { result.words.ghost_name ≡ block.entry.ghost_name }
     {
-        cells::clear(block);
-        BlockPool { block, next: 0 }
+        clear(block);
+        CellPool {
+            words: block,
+            next: 0,
+        }
     }
 }
 
-impl<'a> Pool for BlockPool<'a> {
-    ghost means = { λ p. words_mean p.block.now };
+impl<'a> Words for &'a mut [u32] {
+    ghost stays = { λ v w. w.ghost_name ≡ v.ghost_name };
 
-    ghost lawful = { λ p. lawful_words p.block.now };
+    ghost still = { λ _. refl };
 
-    fn take(&mut self) -> Option<u32>
-        ensures takes { Takes (words_mean self.old.block.now) result (words_mean self.new.block.now) }
-        ensures rest { leftover self.new.block.now ≡ leftover self.old.block.now }
-        ensures named { self.new.block.ghost_name ≡ self.old.block.ghost_name }
-    {
-        let next = self.next;
-        let cell = cells::take(self.block, next)?;
-        self.next = cell as usize;
-        Some(cell)
+    fn put(&mut self, at: usize, words: &[u32]) {
+        self[at..at + words.len()].copy_from_slice(words);
     }
+}
 
-    fn give(&mut self, cell: u32) -> bool
-        ensures gives { Gives (words_mean self.old.block.now) cell result (words_mean self.new.block.now) }
-        ensures rest { leftover self.new.block.now ≡ leftover self.old.block.now }
-        ensures named { self.new.block.ghost_name ≡ self.old.block.ghost_name }
-    {
-        let given = cells::give(self.block, cell);
-        if given {
-            self.next = cell.saturating_sub(1) as usize;
-        }
-        given
-    }
-
-    fn read(&self, cell: u32, word: usize) -> Option<u32> {
-        cells::read(self.block, cell, word)
-    }
-
-    fn write(&mut self, cell: u32, word: usize, value: u32) -> bool
-        ensures writes { Writes (words_mean self.old.block.now) cell word value result (words_mean self.new.block.now) }
-        ensures rest { leftover self.new.block.now ≡ leftover self.old.block.now }
-        ensures named { self.new.block.ghost_name ≡ self.old.block.ghost_name }
-    {
-        cells::write(self.block, cell, word, value)
-    }
-
-    fn count(&self) -> u32 {
-        cells::count(self.block)
-    }
-
-    fn bound(&self) -> u32 {
-        cells::bound(self.block)
+// frees every cell
+fn clear(words: &mut [u32])
+    ensures all { words_mean words.new ≡ all_free (cells_of words.old) }
+    ensures rest { leftover words.new ≡ leftover words.old }
+{
+    // by index: tried over `as_chunks_mut`, after whose borrow a proof knows nothing of the words
+    for i in 0..cells(words).len() {
+        words[STRIDE * i] = FREE;
     }
 }

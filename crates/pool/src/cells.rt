@@ -1,175 +1,166 @@
-// Cells in a slice of words. Each is seventeen words: a mark, 0 while the cell is free, and the sixteen words of the cell. The
-// block pool and the own pool are both such slices.
-//
-// `next` is a guess at the place, from 0, of a free cell: the search begins there. A pool guesses the place after the cell last
-// taken, or the cell last given, so taking all cells looks at each mark about once. A wrong guess costs time alone.
+//! The pool of cells in words. Each cell is seventeen words: a mark, 0 while the cell is free, and the sixteen words of the cell.
+//! The block pool and the own pool are both such pools.
 
-ghost use Rattle.std.specs.Prelude.{◌≡◌, ◌+◌, ◌≤◌, ◌∷◌, length};
+ghost use Rattle.std.specs.Prelude.{◌≡◌, ◌+◌, ◌≤◌, length, count_by};
+ghost use Rattle.std.specs.List.{position};
 ghost use Rattle.std.proofs.Math.Seq.{paste};
-ghost use Rattle.pool.specs.Pools.{Takes, Gives, word_at, Writes, all_free, limit, zeros};
-ghost use Rattle.pool.specs.Words.{words_mean, cells_of, leftover, Placed, Vacant, Found};
+ghost use Rattle.pool.specs.Pools.{Takes, Gives, word_at, Writes, limit};
+ghost use Rattle.pool.specs.Words.{words_mean, cells_of, leftover, cells_in, unmarked, Placed, Found};
+ghost use Rattle.pool.specs.Lawfulness.{lawful_words};
+
+use crate::Pool;
+use std::convert::AsSlice;
 
 // the words of a cell
 const WORDS: usize = 16;
 
 // from one mark to the next
-const STRIDE: usize = 17;
+pub(crate) const STRIDE: usize = 17;
 
 // as many cells as a slice has at most
 const MOST: usize = 512;
 
 // the mark of a free cell
-const FREE: u32 = 0;
+pub(crate) const FREE: u32 = 0;
 
 // a cell just taken: its mark and sixteen zero words
-const FRESH: [u32; 17] = [1, 0, 0, 0, 0, 0, 0, 0, 0, 0, 0, 0, 0, 0, 0, 0, 0];
+const FRESH: [u32; STRIDE] = [1, 0, 0, 0, 0, 0, 0, 0, 0, 0, 0, 0, 0, 0, 0, 0, 0];
 
-// how many cells the words make
-fn cells(words: &[u32]) -> usize
-    ensures { result ≡ cells_of words.now }
-{
-    (words.len() / STRIDE).min(MOST)
+/// Words that cells can lie in.
+pub trait Words: AsSlice<u32> {
+    // The words of the second lie where those of the first lay.
+    ghost stays: { Self → Self → Type 0 };
+
+    /// Copies words in, from a place on.
+    fn put(&mut self, at: usize, words: &[u32])
+        requires { at + length words.now ≤ length (Self.items self.old) }
+        ensures put { Self.items self.new ≡ paste (Self.items self.old) at words.now (length words.now) }
+        ensures stays { stays self.old self.new };
+
+    // What is not changed stays.
+    ghost still: { (w : Self) → stays w w };
 }
 
-/// The bound: the number of the last cell.
-pub fn bound(words: &[u32]) -> u32
-    ensures { result ≡ limit (words_mean words.now) }
-{
-    cells(words) as u32
+/// A pool in words. Every seventeen words make a cell, at most 512 cells; words left over are never written.
+#[derive(Drop)]
+pub struct CellPool<W> {
+    pub(crate) words: W,
+    // a guess at the place, from 0, of a free cell, where the search for one begins: the place after the cell last taken, or the
+    // cell last given, so taking all cells looks at each mark about once; a wrong guess costs time alone
+    pub(crate) next: usize,
 }
 
-// where the mark of the taken cell stands
-fn place(words: &[u32], cell: u32) -> Option<usize>
-    ensures { Placed words.now cell result }
-{
-    if cell == 0 {
-        return None;
+// `rest` and `stays` compare the pool before a call with the pool after it, which no ghost field or model can do: so they stand at
+// each call that changes words.
+impl<W: Words> Pool for CellPool<W> {
+    ghost means = { λ p. words_mean (W.items p.words) };
+
+    ghost lawful = { λ p. lawful_words (W.items p.words) };
+
+    fn take(&mut self) -> Option<u32>
+        ensures takes { Takes (words_mean (W.items self.old.words)) result (words_mean (W.items self.new.words)) }
+        ensures rest { leftover (W.items self.new.words) ≡ leftover (W.items self.old.words) }
+        ensures stays { W.stays self.old.words self.new.words }
+    {
+        let i = find(self.words.as_slice(), self.next)?;
+        self.words.put(STRIDE * i, &FRESH);
+        self.next = i + 1;
+        Some(i as u32 + 1)
     }
-    let i = cell as usize - 1;
-    if i >= cells(words) {
-        return None;
-    }
-    let at = STRIDE * i;
-    let mark = words[at];
-    if mark == FREE { None } else { Some(at) }
-}
 
-// the first free cell from one place up to another
-fn vacant(words: &[u32], from: usize, upto: usize) -> Option<usize>
-    requires { upto ≤ cells_of words.now }
-    ensures { Vacant words.now from upto result }
-{
-    for i in from..upto {
-        let mark = words[STRIDE * i];
-        if mark == FREE {
-            return Some(i);
+    fn give(&mut self, cell: u32) -> bool
+        ensures gives { Gives (words_mean (W.items self.old.words)) cell result (words_mean (W.items self.new.words)) }
+        ensures rest { leftover (W.items self.new.words) ≡ leftover (W.items self.old.words) }
+        ensures stays { W.stays self.old.words self.new.words }
+    {
+        let Some(at) = place(self.words.as_slice(), cell) else {
+            return false;
+        };
+        self.words.put(at, &[FREE]);
+        self.next = cell.saturating_sub(1) as usize;
+        true
+    }
+
+    fn read(&self, cell: u32, word: usize) -> Option<u32> {
+        read(self.words.as_slice(), cell, word)
+    }
+
+    fn write(&mut self, cell: u32, word: usize, value: u32) -> bool
+        ensures writes { Writes (words_mean (W.items self.old.words)) cell word value result (words_mean (W.items self.new.words)) }
+        ensures rest { leftover (W.items self.new.words) ≡ leftover (W.items self.old.words) }
+        ensures stays { W.stays self.old.words self.new.words }
+    {
+        match place(self.words.as_slice(), cell) {
+            Some(at) if word < WORDS => {
+                self.words.put(at + 1 + word, &[value]);
+                true
+            }
+            _ => false,
         }
     }
-    None
+
+    fn count(&self) -> u32 {
+        free_among(cells(self.words.as_slice())) as u32
+    }
+
+    fn bound(&self) -> u32 {
+        cells(self.words.as_slice()).len() as u32
+    }
+}
+
+// the cells, each a mark and sixteen words
+pub(crate) fn cells(words: &[u32]) -> &[[u32; STRIDE]]
+    ensures are { result.now ≡ cells_in words.now }
+    ensures len { length result.now ≡ cells_of words.now }
+{
+    let (cells, _) = words.as_chunks::<STRIDE>();
+    &cells[..cells.len().min(MOST)]
+}
+
+// the first free one of some cells
+fn vacant(cells: &[[u32; STRIDE]]) -> Option<usize>
+    ensures { result ≡ position unmarked cells.now }
+{
+    cells.iter().position(|cell| cell[0] == FREE)
 }
 
 // a free cell, sought from `next` to the end and then from the start
 fn find(words: &[u32], next: usize) -> Option<usize>
     ensures { Found words.now result }
 {
-    let all = cells(words);
-    let start = next.min(all);
-    match vacant(words, start, all) {
-        Some(i) => Some(i),
-        None => vacant(words, 0, start),
+    let cells = cells(words);
+    let start = next.min(cells.len());
+    let (before, after) = cells.split_at(start);
+    if let Some(i) = vacant(after) {
+        return Some(start + i);
     }
+    vacant(before)
 }
 
-// marks a cell as taken and clears its words
-fn freshen(words: &mut [u32], at: usize)
-    requires { at + 17 ≤ length words.old }
-    ensures { words.new ≡ paste words.old at (1 ∷ zeros) 17 }
+// how many of some cells are free
+fn free_among(cells: &[[u32; STRIDE]]) -> usize
+    ensures { result ≡ count_by unmarked cells.now }
 {
-    words[at..at + STRIDE].copy_from_slice(&FRESH);
+    cells.iter().filter(|cell| cell[0] == FREE).count()
 }
 
-/// Takes a free cell, and answers its number.
-pub fn take(words: &mut [u32], next: usize) -> Option<u32>
-    ensures takes { Takes (words_mean words.old) result (words_mean words.new) }
-    ensures rest { leftover words.new ≡ leftover words.old }
+// where the mark of the taken cell stands
+fn place(words: &[u32], cell: u32) -> Option<usize>
+    ensures { Placed words.now cell result }
 {
-    match find(words, next) {
-        Some(i) => {
-            freshen(words, STRIDE * i);
-            Some(i as u32 + 1)
-        }
-        None => None,
-    }
+    let i = cell.checked_sub(1)? as usize;
+    let mark = cells(words).get(i)?[0];
+    if mark == FREE { None } else { Some(STRIDE * i) }
 }
 
-/// Frees a taken cell.
-pub fn give(words: &mut [u32], cell: u32) -> bool
-    ensures gives { Gives (words_mean words.old) cell result (words_mean words.new) }
-    ensures rest { leftover words.new ≡ leftover words.old }
-{
-    match place(words, cell) {
-        Some(at) => {
-            words[at] = FREE;
-            true
-        }
-        None => false,
-    }
-}
-
-/// A word of a taken cell.
-pub fn read(words: &[u32], cell: u32, word: usize) -> Option<u32>
+// a word of a taken cell
+fn read(words: &[u32], cell: u32, word: usize) -> Option<u32>
     ensures { result ≡ word_at (words_mean words.now) cell word }
 {
-    match place(words, cell) {
-        Some(at) => {
-            if word < WORDS {
-                Some(words[at + 1 + word])
-            } else {
-                None
-            }
-        }
-        None => None,
+    let i = cell.checked_sub(1)? as usize;
+    let lying = &cells(words).get(i)?[..];
+    if lying[0] == FREE || word >= WORDS {
+        return None;
     }
-}
-
-/// Sets a word of a taken cell.
-pub fn write(words: &mut [u32], cell: u32, word: usize, value: u32) -> bool
-    ensures writes { Writes (words_mean words.old) cell word value result (words_mean words.new) }
-    ensures rest { leftover words.new ≡ leftover words.old }
-{
-    match place(words, cell) {
-        Some(at) => {
-            if word < WORDS {
-                words[at + 1 + word] = value;
-                true
-            } else {
-                false
-            }
-        }
-        None => false,
-    }
-}
-
-/// Frees every cell.
-pub fn clear(words: &mut [u32])
-    ensures all { words_mean words.new ≡ all_free (cells_of words.old) }
-    ensures rest { leftover words.new ≡ leftover words.old }
-{
-    for i in 0..cells(words) {
-        words[STRIDE * i] = FREE;
-    }
-}
-
-/// How many cells are free.
-pub fn count(words: &[u32]) -> u32
-    ensures { result ≡ (words_mean words.now).free }
-{
-    let mut free: u32 = 0;
-    for i in 0..cells(words) {
-        let mark = words[STRIDE * i];
-        if mark == FREE {
-            free += 1;
-        }
-    }
-    free
+    Some(lying[word + 1])
 }

@@ -6,6 +6,7 @@ ghost use Rattle.pool.specs.Pools.{Takes, Gives, Writes};
 use crate::Pool;
 
 /// A pool that is lent for a while. All that it does, it does to the pool that is lent.
+// A type and no `impl Pool for &mut P`: that would be the same six calls, without `new` and what it promises.
 #[derive(Drop)]
 pub struct LentPool<'a, P> {
     pool: &'a mut P,

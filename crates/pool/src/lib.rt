@@ -6,7 +6,7 @@
 #![tactic(auto)]
 
 pub mod block;
-mod cells;
+pub mod cells;
 pub mod lent;
 pub mod own;
 pub mod pair;
@@ -14,6 +14,9 @@ pub mod reserve;
 
 ghost use Rattle.std.specs.Prelude.{◌≡◌};
 ghost use Rattle.pool.specs.Pools.{Meaning, Lawful, Takes, Gives, word_at, Writes, limit};
+
+/// The greatest bound of a pool.
+pub const GREATEST: u32 = 65535;
 
 /// A pool of cells, numbered from 1 to its bound.
 pub trait Pool {

@@ -5,10 +5,7 @@ ghost use Rattle.pool.specs.Pools.{fit, paired};
 ghost use Rattle.pool.specs.Sides.{Sided};
 ghost use Rattle.pool.specs.Lawfulness.{lawful_pair};
 
-use crate::Pool;
-
-// the greatest bound of a pool
-const GREATEST: u32 = 65535;
+use crate::{GREATEST, Pool};
 
 /// Two pools as one: counts and bounds add, and the right one's numbers follow the left one's bound. If the bounds sum past
 /// 65,535, the right pool is ignored.
@@ -18,18 +15,18 @@ pub struct PairPool<L, R> {
     right: R,
 }
 
-// Where a cell of the pair is: in one of the pools, under the number that it has there, or in neither.
-#[derive(Drop)]
+// Where a cell of the pair is: in one of the pools, under the number that it has there.
+#[derive(Clone, Copy)]
 enum Side {
     Left(u32),
     Right(u32),
-    Neither,
 }
 
 impl<L: Pool, R: Pool> PairPool<L, R> {
     /// The pair of two pools, each as it stands: the left one's taken cells and then the right one's, counts and bounds added.
     pub fn new(left: L, right: R) -> PairPool<L, R>
-        ensures { (result.left ≡ left) × (result.right ≡ right) }
+        ensures left { result.left ≡ left }
+        ensures right { result.right ≡ right }
     {
         PairPool { left, right }
     }
@@ -41,17 +38,17 @@ impl<L: Pool, R: Pool> PairPool<L, R> {
         self.left.bound() + self.right.bound() <= GREATEST
     }
 
-    // where the cell is
-    fn side(&self, cell: u32) -> Side
+    // where the cell is; none if it is in neither pool
+    fn side(&self, cell: u32) -> Option<Side>
         ensures { Sided (L.Pool.means self.now.left) (R.Pool.means self.now.right) cell result }
     {
         let base = self.left.bound();
         if cell <= base {
-            Side::Left(cell)
+            Some(Side::Left(cell))
         } else if self.joined() {
-            Side::Right(cell - base)
+            Some(Side::Right(cell - base))
         } else {
-            Side::Neither
+            None
         }
     }
 }
@@ -69,33 +66,30 @@ impl<L: Pool, R: Pool> Pool for PairPool<L, R> {
             return None;
         }
         let base = self.left.bound();
-        match self.right.take() {
-            Some(n) => Some(base + n),
-            None => None,
-        }
+        let n = self.right.take()?;
+        Some(base + n)
     }
 
     fn give(&mut self, cell: u32) -> bool {
         match self.side(cell) {
-            Side::Left(n) => self.left.give(n),
-            Side::Right(n) => self.right.give(n),
-            Side::Neither => false,
+            Some(Side::Left(n)) => self.left.give(n),
+            Some(Side::Right(n)) => self.right.give(n),
+            None => false,
         }
     }
 
     fn read(&self, cell: u32, word: usize) -> Option<u32> {
-        match self.side(cell) {
+        match self.side(cell)? {
             Side::Left(n) => self.left.read(n, word),
             Side::Right(n) => self.right.read(n, word),
-            Side::Neither => None,
         }
     }
 
     fn write(&mut self, cell: u32, word: usize, value: u32) -> bool {
         match self.side(cell) {
-            Side::Left(n) => self.left.write(n, word, value),
-            Side::Right(n) => self.right.write(n, word, value),
-            Side::Neither => false,
+            Some(Side::Left(n)) => self.left.write(n, word, value),
+            Some(Side::Right(n)) => self.right.write(n, word, value),
+            None => false,
         }
     }
 

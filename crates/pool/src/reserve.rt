@@ -35,13 +35,9 @@ impl<P: Pool> Pool for ReservePool<P> {
         if self.left == 0 {
             return None;
         }
-        match self.lower.take() {
-            Some(n) => {
-                self.left -= 1;
-                Some(n)
-            }
-            None => None,
-        }
+        let cell = self.lower.take()?;
+        self.left -= 1;
+        Some(cell)
     }
 
     fn give(&mut self, cell: u32) -> bool {

@@ -3,10 +3,7 @@
 ghost use Rattle.std.specs.Prelude.{◌≡◌};
 ghost use Rattle.pool_trials.specs.Hollow.{hollow, lawful_hollow};
 
-use pool::Pool;
-
-// the greatest bound of a pool
-const GREATEST: u32 = 65535;
+use pool::{GREATEST, Pool};
 
 /// A pool without cells.
 #[derive(Drop)]

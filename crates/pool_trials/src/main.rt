@@ -9,12 +9,12 @@ mod making;
 use crate::generic::{drain, two_words};
 use crate::hollow::Hollow;
 use crate::making::{begins, take_in_block, take_lent};
-use pool::Pool;
 use pool::block::BlockPool;
 use pool::lent::LentPool;
 use pool::own::OwnPool;
 use pool::pair::PairPool;
 use pool::reserve::ReservePool;
+use pool::{GREATEST, Pool};
 use std::io;
 
 // a line on a pool: its count and bound, two words kept in a cell for a while, and how many cells it gives until none is left
@@ -57,12 +57,12 @@ fn main(rt: HostRuntime) -> io::Result<()> {
     show(
         rt,
         "pair at the greatest bound",
-        &mut PairPool::new(OwnPool::new(), Hollow::new(65471)),
+        &mut PairPool::new(OwnPool::new(), Hollow::new(GREATEST - 64)),
     )?;
     show(
         rt,
         "pair past it",
-        &mut PairPool::new(OwnPool::new(), Hollow::new(65472)),
+        &mut PairPool::new(OwnPool::new(), Hollow::new(GREATEST - 63)),
     )?;
     show(rt, "reserve of 3", &mut ReservePool::new(OwnPool::new(), 3))?;
     show(

@@ -1,6 +1,9 @@
 use Rattle.std.proofs.Common.{rules}
-use Rattle.pool.proofs.InWords.{found_round}
+use Rattle.pool.proofs.InWords.{found_after, found_before}
 use Rattle.pool.proofs.cells.find.Goals as goal
 
-pub returns-in-None : goal.returns-in-None
-returns-in-None c = found_round _ _ _ _ c.cells-all.ensures (search rules) c.in-None.ensures c.vacant-in-None.ensures
+pub returns-in-Some : goal.returns-in-Some
+returns-in-Some c = found_after c.args.words.now c.cells-cells.result.now c.cells-cells.ensures.are c.min-start.result (search rules) c.in-Some.i (search rules)
+
+pub returns : goal.returns
+returns c = found_before c.args.words.now c.cells-cells.result.now c.cells-cells.ensures.are c.min-start.result (search rules) c.vacant-2.result (search rules) (search rules)

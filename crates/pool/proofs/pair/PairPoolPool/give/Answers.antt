@@ -1,7 +1,7 @@
 use Rattle.pool.proofs.pair.PairPoolPool.give.Goals as goal
 
-pub returns-in-Left : goal.returns-in-Left
-returns-in-Left g c = c.in-Left.ensures.gives _ _ c.give.ensures
+pub returns-in-Some-Left : goal.returns-in-Some-Left
+returns-in-Some-Left g c = let i = rw c.in-Some-Left.field-0-is at c.in-Some-Left.ensures in i.gives _ _ c.give.ensures
 
-pub returns-in-Right : goal.returns-in-Right
-returns-in-Right g c = c.in-Right.ensures.gives _ _ c.give-in-Right.ensures
+pub returns-in-Some-Right : goal.returns-in-Some-Right
+returns-in-Some-Right g c = let i = rw c.in-Some-Right.field-0-is at c.in-Some-Right.ensures in i.gives _ _ c.give-in-Some-Right.ensures
