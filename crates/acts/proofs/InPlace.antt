@@ -1,9 +1,10 @@
 -- The law, head by head.
-use Rattle.std.proofs.Common.{ℕ, Bool, cond, List, length, sym, refl, ap, subst}
+use Rattle.std.proofs.Common.{◌≡◌, ℕ, Bool, cond, List, [], ◌∷◌, length, sym, refl, ap, ◌∙◌, subst}
 use Rattle.std.proofs.lemmas.Bool.{ltb-true}
 use Rattle.lfpl.specs.Syntax.{Ty, Head, var, call, const, apply, guard, mk_pair, case_pair, mk_left, mk_right, case_sum, mk_nil, mk_cons, case_list, mk_leaf, mk_node, case_tree, Exprs, Fun}
+use Rattle.lfpl.specs.Typing.{rule}
 use Rattle.lfpl.specs.Values.{Typed}
-use Rattle.meaning.specs.Act.{stuck, does}
+use Rattle.meaning.specs.Act.{stuck, does, types}
 use Rattle.pool.specs.Pools.{Meaning}
 use Rattle.acts.specs.Settling.{Acts, InPlaceLaw}
 use Rattle.acts.proofs.Settled.{by1, by2, by3, by5, Right, known, roomed}
@@ -27,40 +28,30 @@ module _ (fs : List Fun) (m : Meaning) (ws : List ℕ) (base at dest : ℕ) (qs 
         },
       )
 
+  -- a head that wants one part is right of any parts where it is right of one
+  of_one : (h : Head) → ((vs : List Typed) → length (rule fs (types env) h (types vs)).wants ≡ 1) → ((a : Typed) → Right fs m ws base at dest qs env ps B W h (a ∷ [])) → (vs : List Typed) → Right fs m ws base at dest qs env ps B W h vs
+  of_one h n k vs s = by1 (Right fs m ws base at dest qs env ps B W h) vs (ap length (known fs m ws base at dest qs env ps B W h vs s).1 ∙ n vs) k s
+
+  of_two : (h : Head) → ((vs : List Typed) → length (rule fs (types env) h (types vs)).wants ≡ 2) → ((a b : Typed) → Right fs m ws base at dest qs env ps B W h (a ∷ b ∷ [])) → (vs : List Typed) → Right fs m ws base at dest qs env ps B W h vs
+  of_two h n k vs s = by2 (Right fs m ws base at dest qs env ps B W h) vs (ap length (known fs m ws base at dest qs env ps B W h vs s).1 ∙ n vs) k s
+
   head_right : (h : Head) (vs : List Typed) → Right fs m ws base at dest qs env ps B W h vs
-  head_right (var i) vs s = var_right fs m ws base at dest qs env ps B W i vs s
-  head_right (call f) vs s = call_right f vs s
-  head_right (const z) vs s = const_right fs m ws base at dest qs env ps B W z vs s
-  head_right (apply o) vs s =
-      by2 (Right fs m ws base at dest qs env ps B W (apply o)) vs (ap length (known fs m ws base at dest qs env ps B W (apply o) vs s).1)
-      (apply_right fs m ws base at dest qs env ps B W o) s
-  head_right guard vs s =
-      by1 (Right fs m ws base at dest qs env ps B W guard) vs (ap length (known fs m ws base at dest qs env ps B W guard vs s).1) (guard_right fs m ws base at dest qs env ps B W) s
-  head_right (mk_pair A) vs s =
-      by2 (Right fs m ws base at dest qs env ps B W (mk_pair A)) vs (ap length (known fs m ws base at dest qs env ps B W (mk_pair A) vs s).1)
-      (pair_right fs m ws base at dest qs env ps B W A) s
-  head_right case_pair vs s =
-      by1 (Right fs m ws base at dest qs env ps B W case_pair) vs (ap length (known fs m ws base at dest qs env ps B W case_pair vs s).1) (split_right fs m ws base at dest qs env ps B W) s
-  head_right (mk_left A) vs s =
-      by1 (Right fs m ws base at dest qs env ps B W (mk_left A)) vs (ap length (known fs m ws base at dest qs env ps B W (mk_left A) vs s).1)
-      (left_right fs m ws base at dest qs env ps B W A) s
-  head_right (mk_right A) vs s =
-      by1 (Right fs m ws base at dest qs env ps B W (mk_right A)) vs (ap length (known fs m ws base at dest qs env ps B W (mk_right A) vs s).1)
-      (right_right fs m ws base at dest qs env ps B W A) s
-  head_right case_sum vs s =
-      by1 (Right fs m ws base at dest qs env ps B W case_sum) vs (ap length (known fs m ws base at dest qs env ps B W case_sum vs s).1) (sum_right fs m ws base at dest qs env ps B W) s
-  head_right (mk_nil A) vs s = nil_right fs m ws base at dest qs env ps B W A vs s
-  head_right mk_cons vs s =
-      by3 (Right fs m ws base at dest qs env ps B W mk_cons) vs (ap length (known fs m ws base at dest qs env ps B W mk_cons vs s).1) (cons_right fs m ws base at dest qs env ps B W) s
-  head_right case_list vs s =
-      by1 (Right fs m ws base at dest qs env ps B W case_list) vs (ap length (known fs m ws base at dest qs env ps B W case_list vs s).1) (list_right fs m ws base at dest qs env ps B W) s
-  head_right (mk_leaf A) vs s =
-      by1 (Right fs m ws base at dest qs env ps B W (mk_leaf A)) vs (ap length (known fs m ws base at dest qs env ps B W (mk_leaf A) vs s).1)
-      (leaf_right fs m ws base at dest qs env ps B W A) s
-  head_right mk_node vs s =
-      by5 (Right fs m ws base at dest qs env ps B W mk_node) vs (ap length (known fs m ws base at dest qs env ps B W mk_node vs s).1) (node_right fs m ws base at dest qs env ps B W) s
-  head_right case_tree vs s =
-      by1 (Right fs m ws base at dest qs env ps B W case_tree) vs (ap length (known fs m ws base at dest qs env ps B W case_tree vs s).1) (tree_right fs m ws base at dest qs env ps B W) s
+  head_right (var i) = var_right fs m ws base at dest qs env ps B W i
+  head_right (call f) = call_right f
+  head_right (const z) = const_right fs m ws base at dest qs env ps B W z
+  head_right (apply o) = of_two (apply o) (λ vs. refl) (apply_right fs m ws base at dest qs env ps B W o)
+  head_right guard = of_one guard (λ vs. refl) (guard_right fs m ws base at dest qs env ps B W)
+  head_right (mk_pair A) = of_two (mk_pair A) (λ vs. refl) (pair_right fs m ws base at dest qs env ps B W A)
+  head_right case_pair = of_one case_pair (λ vs. refl) (split_right fs m ws base at dest qs env ps B W)
+  head_right (mk_left A) = of_one (mk_left A) (λ vs. refl) (left_right fs m ws base at dest qs env ps B W A)
+  head_right (mk_right A) = of_one (mk_right A) (λ vs. refl) (right_right fs m ws base at dest qs env ps B W A)
+  head_right case_sum = of_one case_sum (λ vs. refl) (sum_right fs m ws base at dest qs env ps B W)
+  head_right (mk_nil A) = nil_right fs m ws base at dest qs env ps B W A
+  head_right mk_cons = λ vs s. by3 (Right fs m ws base at dest qs env ps B W mk_cons) vs (ap length (known fs m ws base at dest qs env ps B W mk_cons vs s).1) (cons_right fs m ws base at dest qs env ps B W) s
+  head_right case_list = of_one case_list (λ vs. refl) (list_right fs m ws base at dest qs env ps B W)
+  head_right (mk_leaf A) = of_one (mk_leaf A) (λ vs. refl) (leaf_right fs m ws base at dest qs env ps B W A)
+  head_right mk_node = λ vs s. by5 (Right fs m ws base at dest qs env ps B W mk_node) vs (ap length (known fs m ws base at dest qs env ps B W mk_node vs s).1) (node_right fs m ws base at dest qs env ps B W) s
+  head_right case_tree = of_one case_tree (λ vs. refl) (tree_right fs m ws base at dest qs env ps B W)
 
 -- where the types fit, what an expression does is what its head does
 pub in_place_law : InPlaceLaw

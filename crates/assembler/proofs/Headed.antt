@@ -27,21 +27,21 @@ module _ (fs : List Fun) (Γ As : List Ty) where
 
   -- a choice has one part
   pub one_part : (h : Head) → is_choice_head h ≡ true → fits (rule fs Γ h As) As ≡ true → length As ≡ 1
-  one_part (var i) c f = absurd (let z : ◌≡◌ {A = ℕ} 0 1 = cc in omega arith)
-  one_part (call g) c f = absurd (let z : ◌≡◌ {A = ℕ} 0 1 = cc in omega arith)
-  one_part (const z) c f = absurd (let z : ◌≡◌ {A = ℕ} 0 1 = cc in omega arith)
-  one_part (apply o) c f = absurd (let z : ◌≡◌ {A = ℕ} 0 1 = cc in omega arith)
+  one_part (var i) c f = cc
+  one_part (call g) c f = cc
+  one_part (const z) c f = cc
+  one_part (apply o) c f = cc
   one_part guard c f = one_by guard refl f
-  one_part (mk_pair A) c f = absurd (let z : ◌≡◌ {A = ℕ} 0 1 = cc in omega arith)
+  one_part (mk_pair A) c f = cc
   one_part case_pair c f = one_by case_pair refl f
-  one_part (mk_left A) c f = absurd (let z : ◌≡◌ {A = ℕ} 0 1 = cc in omega arith)
-  one_part (mk_right A) c f = absurd (let z : ◌≡◌ {A = ℕ} 0 1 = cc in omega arith)
+  one_part (mk_left A) c f = cc
+  one_part (mk_right A) c f = cc
   one_part case_sum c f = one_by case_sum refl f
-  one_part (mk_nil A) c f = absurd (let z : ◌≡◌ {A = ℕ} 0 1 = cc in omega arith)
-  one_part mk_cons c f = absurd (let z : ◌≡◌ {A = ℕ} 0 1 = cc in omega arith)
+  one_part (mk_nil A) c f = cc
+  one_part mk_cons c f = cc
   one_part case_list c f = one_by case_list refl f
-  one_part (mk_leaf A) c f = absurd (let z : ◌≡◌ {A = ℕ} 0 1 = cc in omega arith)
-  one_part mk_node c f = absurd (let z : ◌≡◌ {A = ℕ} 0 1 = cc in omega arith)
+  one_part (mk_leaf A) c f = cc
+  one_part mk_node c f = cc
   one_part case_tree c f = one_by case_tree refl f
 
   -- any other expression has no arms
@@ -50,18 +50,18 @@ module _ (fs : List Fun) (Γ As : List Ty) where
   no_arms (call g) c = refl
   no_arms (const z) c = refl
   no_arms (apply o) c = refl
-  no_arms guard c = absurd (let z : ◌≡◌ {A = ℕ} 0 1 = cc in omega arith)
+  no_arms guard c = cc
   no_arms (mk_pair A) c = refl
-  no_arms case_pair c = absurd (let z : ◌≡◌ {A = ℕ} 0 1 = cc in omega arith)
+  no_arms case_pair c = cc
   no_arms (mk_left A) c = refl
   no_arms (mk_right A) c = refl
-  no_arms case_sum c = absurd (let z : ◌≡◌ {A = ℕ} 0 1 = cc in omega arith)
+  no_arms case_sum c = cc
   no_arms (mk_nil A) c = refl
   no_arms mk_cons c = refl
-  no_arms case_list c = absurd (let z : ◌≡◌ {A = ℕ} 0 1 = cc in omega arith)
+  no_arms case_list c = cc
   no_arms (mk_leaf A) c = refl
   no_arms mk_node c = refl
-  no_arms case_tree c = absurd (let z : ◌≡◌ {A = ℕ} 0 1 = cc in omega arith)
+  no_arms case_tree c = cc
 
   -- at most six parts
   few_by : (h : Head) (n : ℕ) → length (rule fs Γ h As).wants ≡ n → n ≤ 6 → fits (rule fs Γ h As) As ≡ true → length As ≤ 6

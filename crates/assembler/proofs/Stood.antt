@@ -1,5 +1,5 @@
 -- Code that is made of an admitted table stands for the program that the table carries.
-use Rattle.std.proofs.Common.{◌≡◌, ℕ, zero, suc, ◌+◌, ◌%◌, ◌<◌, ◌≤◌, Bool, true, false, cond, ◌⊎◌, List, [], ◌∷◌, ◌++◌, map, length, get_or, take, sym, refl, ap, ◌∙◌, subst, inl, inr, arith, length-take}
+use Rattle.std.proofs.Common.{◌≡◌, ℕ, zero, suc, ◌+◌, ◌%◌, ◌<◌, ◌≤◌, Bool, true, false, cond, List, [], ◌∷◌, ◌++◌, map, length, get_or, take, sym, refl, ap, ◌∙◌, subst, arith, length-take}
 use lib.ListN.{length-map}
 use Rattle.std.proofs.lemmas.List.{get_or-take}
 use Rattle.std.specs.List.{AllByRecursion}
@@ -15,17 +15,18 @@ use Rattle.judge.specs.Over.{NotedOverAt, NotedOver, NotedOverAll, NotedOverArms
 use Rattle.judge.specs.Notes.{note_at}
 use Rattle.judge.specs.declared.table.Note.{Note}
 use Rattle.judge.specs.declared.table.Table.{Table}
-use Rattle.lfpl.specs.Syntax.{Ty, int, diamond, width, var, call, Expr, Exprs, expr, end, ◌then◌, size, sizes, Fun, Program}
+use Rattle.lfpl.specs.Syntax.{Ty, width, var, call, Expr, Exprs, expr, end, ◌then◌, size, sizes, Fun, Program}
 use Rattle.lfpl.specs.Typing.{type_at, fun_at, rule}
 use Rattle.meaning.specs.Machine.{body_number}
 use Rattle.tables.specs.Listed.{Stands, stands, AllStand, all_end, all_more, head_of, Numbers, Signs}
 use Rattle.tables.specs.declared.listing.Listing.{Listing}
 use Rattle.tables.specs.declared.listing.Node as L
 use Rattle.tables.specs.declared.listing.Signature.{Signature}
-use Rattle.typing.proofs.Coding.{code_cases}
 use Rattle.typing.specs.Codes.{Coded, Typed}
 use Rattle.typing.specs.Rules.{Basis, names_of, type_of}
 use Rattle.typing.specs.Scopes.{widths, offsets}
+use Rattle.typing.specs.declared.codes.Code as C
+use Rattle.typing.specs.declared.codes.Code.TheVariants.{Number, Diamond, Listed}
 use Rattle.assembler.proofs.Headed.{about_type, one_part, no_arms, few_parts, worked, called, number_is, apart}
 use Rattle.assembler.proofs.Makes.{own}
 use Rattle.assembler.specs.Making.{word_of, type_widths, is_choice_head, operation_by, listed_at, about_at, Made}
@@ -59,13 +60,10 @@ low_append (x ∷ ps) qs over p q (suc i) = low_append ps qs over (λ j. p (suc 
 
 -- ---- types
 
-pub coded_narrow : (l : Listing) (ts : List Ty) → Typed l ts → (c : ℕ) (A : Ty) → Coded ts c A → Narrow A
-coded_narrow l ts t c A h = go (code_cases ts c A h)
-  where
-    go : ((c ≡ 64) × (A ≡ int)) ⊎ (((c ≡ 65) × (A ≡ diamond)) ⊎ ((c < length ts) × (type_at ts c ≡ A))) → Narrow A
-    go (inl p) = subst Narrow (sym p.1) (record { low = omega arith; element = refl })
-    go (inr (inl p)) = subst Narrow (sym p.1) (record { low = omega arith; element = refl })
-    go (inr (inr p)) = subst Narrow p.1 (record { low = t.types.narrow c p.0; element = t.types.roomy c p.0 })
+pub coded_narrow : (l : Listing) (ts : List Ty) → Typed l ts → (c : C.Code) (A : Ty) → Coded ts c A → Narrow A
+coded_narrow l ts t Number A h = subst Narrow (sym h) (record { low = omega arith; element = refl })
+coded_narrow l ts t Diamond A h = subst Narrow (sym h) (record { low = omega arith; element = refl })
+coded_narrow l ts t (Listed i) A h = subst Narrow h.1 (record { low = t.types.narrow i h.0; element = t.types.roomy i h.0 })
 
 pub numbers_narrow : (l : Listing) (ts : List Ty) → Typed l ts → (ns : List ℕ) → Numbers ts ns → AllByRecursion Narrow (map (type_at ts) ns)
 numbers_narrow l ts t [] h = tt
@@ -119,7 +117,7 @@ module _ (t : Table) (ts : List Ty) (fs : List Fun) (code : Code) (basis : Basis
   none_noted : (qs : Exprs) (n : ℕ) (bs : List (List Ty)) (Γ : List Ty) (ps : List ℕ) (over : ℕ) (B : Ty) → bs ≡ [] → NotedOverArms ts fs notes qs n bs Γ ps over B → sizes qs ≡ 0
   none_noted end n bs Γ ps over B e d = refl
   none_noted (q then qs) n [] Γ ps over B e d = absurd d
-  none_noted (q then qs) n (b ∷ bs) Γ ps over B e d = absurd (let z : ◌≡◌ {A = ℕ} 0 1 = cc in omega arith)
+  none_noted (q then qs) n (b ∷ bs) Γ ps over B e d = cc
 
   module _ (n : ℕ) (x : L.Node) (es qs : Exprs) (Γ : List Ty) (ps : List ℕ) (over : ℕ) (As : List Ty) (B W : Ty) (listed : x ≡ listed_at t n)
       (fit_in : n + size (expr (head_of ts x) es qs) ≤ length nodes) (low : Low ps over)

@@ -3,7 +3,7 @@
 
 #![tactic(auto)]
 
-ghost use Rattle.std.specs.Prelude.{◌≡◌, ℕ, ◌<◌, List, slice_index, slice_index_or};
+ghost use Rattle.std.specs.Prelude.{◌≡◌, ℕ, ◌%◌, ◌<◌, List, slice_index, slice_index_or};
 ghost use Rattle.std.specs.Int.{w32};
 ghost use Rattle.std.proofs.Common.{of_z};
 ghost use Rattle.code.specs.Nodes.{no_node};
@@ -17,11 +17,12 @@ ghost use Rattle.tables.specs.Listed.{head_by, head_of};
 ghost use Rattle.typing.specs.Codes.{Coded, Typed};
 ghost use Rattle.assembler.specs.Making.{Made, about_at, is_choice_head, listed_at, operation_by, type_widths, word_of};
 
-use code::{Code, EXPRESSIONS, FUNCTIONS, Infix, Node, Op};
+use code::{Code, Infix, Node, Op};
 use codec::integer::unzigzag;
 use judge::table::{Note, Table};
+use std::array;
 use tables::listing::{Kind, Listing, Node as Listed};
-use typing::codes::{entry_of, first_of, second_of};
+use typing::codes::{Code as TypeCode, entry_of, first_of, second_of};
 
 /// How many words a value of a type has, and one of each type that it is made of.
 #[derive(Clone, Copy)]
@@ -39,14 +40,14 @@ fn word(n: usize) -> u32
 }
 
 // How many words a value of the type with the code has.
-fn width_of(listing: &Listing, code: u8) -> u32
+fn width_of(listing: &Listing, code: TypeCode) -> u32
     ensures { (ts : List Ty) (A : Ty) → Typed listing.now ts → Coded ts code A → result ≡ width A }
 {
     entry_of(listing, code).width as u32
 }
 
 // The widths of the type with the code and of those that it is made of.
-fn widths_of(listing: &Listing, code: u8) -> Widths
+fn widths_of(listing: &Listing, code: TypeCode) -> Widths
     ensures { (ts : List Ty) (A : Ty) → Typed listing.now ts → Coded ts code A → result ≡ type_widths A }
 {
     Widths {
@@ -56,7 +57,7 @@ fn widths_of(listing: &Listing, code: u8) -> Widths
     }
 }
 
-// The infix operation with the number.
+// The infix operation with the number; a number past the last is Plus. So no `From`, which loses nothing, and no `TryFrom`, which refuses.
 fn infix_of(number: u32) -> Infix
     ensures { result ≡ code_infix (slice_index_or operations number plus) }
 {
@@ -73,18 +74,17 @@ fn infix_of(number: u32) -> Infix
 fn constant(number: u32) -> u32
     ensures { result ≡ of_z w32 (wrap (unzigzagged number)) }
 {
-    let integer = unzigzag(number);
-    integer.cast_unsigned()
+    unzigzag(number).cast_unsigned()
 }
 
 // An expression of the kind chooses an arm by its first part.
 fn is_choice(kind: Kind) -> bool
     ensures { (ts : List Ty) (v : ℕ) → result ≡ is_choice_head (head_by kind ts v) }
 {
-    match kind {
-        Kind::Guard | Kind::SplitPair | Kind::CaseSum | Kind::CaseList | Kind::CaseTree => true,
-        _ => false,
-    }
+    matches!(
+        kind,
+        Kind::Guard | Kind::SplitPair | Kind::CaseSum | Kind::CaseList | Kind::CaseTree
+    )
 }
 
 // The operation of what is listed, where a variable lies at the place, a function's body begins at the number, and the type that the operation is about has the
@@ -93,20 +93,35 @@ fn operation(listed: Listed, place: u32, start: u32, widths: Widths) -> Op
     ensures { (ts : List Ty) → result ≡ operation_by (head_of ts listed) place start widths }
 {
     match listed.kind {
-        Kind::Variable => Op::Variable(place, widths.whole),
+        Kind::Variable => Op::Variable {
+            place,
+            width: widths.whole,
+        },
         Kind::Call => Op::Call(start),
         Kind::Constant => Op::Constant(constant(listed.number)),
         Kind::Infix => Op::Apply(infix_of(listed.number)),
         Kind::Guard => Op::Guard,
         Kind::MakePair => Op::Pair(widths.whole),
         Kind::SplitPair => Op::Split,
-        Kind::MakeLeft => Op::Tag(0, widths.left),
-        Kind::MakeRight => Op::Tag(1, widths.right),
-        Kind::CaseSum => Op::CaseSum(widths.left, widths.right),
+        Kind::MakeLeft => Op::Tag {
+            mark: 0,
+            width: widths.left,
+        },
+        Kind::MakeRight => Op::Tag {
+            mark: 1,
+            width: widths.right,
+        },
+        Kind::CaseSum => Op::CaseSum {
+            left: widths.left,
+            right: widths.right,
+        },
         Kind::EmptyList => Op::Empty,
         Kind::MakeCons => Op::Cons(widths.left),
         Kind::CaseList => Op::CaseList(widths.left),
-        Kind::MakeLeaf => Op::Tag(0, widths.left),
+        Kind::MakeLeaf => Op::Tag {
+            mark: 0,
+            width: widths.left,
+        },
         Kind::MakeNode => Op::Fork(widths.left),
         Kind::CaseTree => Op::CaseTree(widths.left),
     }
@@ -117,8 +132,7 @@ fn listed_at(table: &Table, at: usize) -> Listed
     requires { at < 512 }
     ensures { result ≡ listed_at table.now at }
 {
-    let listing = table.listing();
-    listing.nodes[at]
+    table.listing().nodes[at]
 }
 
 // The note at what the expression with the number is about: a choice is about its first part, which follows it and ends where the arms begin; any other expression is
@@ -134,11 +148,11 @@ fn about_of(table: &Table, listed: Listed, at: usize) -> Note
     }
 }
 
-// The expression with the number.
-fn node_of(table: &Table, at: usize) -> Node
-    requires { at < 512 }
-    ensures { Made table.now at result }
+// The expression with the number; expressions are numbered below 512.
+fn node_of(table: &Table, number: usize) -> Node
+    ensures { Made table.now (number % 512) result }
 {
+    let at = number % 512;
     let listed = listed_at(table, at);
     let note = table.note(at);
     let about = about_of(table, listed, at);
@@ -161,27 +175,19 @@ fn node_of(table: &Table, at: usize) -> Node
 fn nodes_of(table: &Table) -> [Node; 512]
     ensures { (n : ℕ) → n < 512 → Made table.now n (slice_index_or result n no_node) }
 {
-    let mut nodes = [Node {
-        op: Op::Guard,
-        over: 0,
-        arms: 0,
-        end: 0,
-    }; EXPRESSIONS];
-    for at in 0..EXPRESSIONS {
-        nodes[at] = node_of(table, at);
-    }
-    nodes
+    // the clause is what `from_fn` passes on of each call
+    array::from_fn(
+        |number|
+            ensures { Made table.entry.now (number % 512) result }
+        { node_of(table, number) },
+    )
 }
 
 // Where each function's body begins.
 fn starts_of(table: &Table) -> [u32; 32]
     ensures { (f : ℕ) → f < 32 → slice_index result f ≡ word_of (slice_index table.now.starts f) }
 {
-    let mut starts = [0; FUNCTIONS];
-    for f in 0..FUNCTIONS {
-        starts[f] = word(table.start(f));
-    }
-    starts
+    array::from_fn(|f| word(table.start(f)))
 }
 
 /// Makes code of an admitted table.

@@ -25,7 +25,7 @@ pub enum Infix {
 #[derive(Clone, Copy)]
 pub enum Op {
     /// Gives the variable that lies at a place above the body's first word, so many words wide.
-    Variable(u32, u32),
+    Variable { place: u32, width: u32 },
     /// Enters the body whose outermost expression has the number.
     Call(u32),
     /// Gives the word.
@@ -36,9 +36,9 @@ pub enum Op {
     Pair(u32),
     Split,
     /// Gives the mark and the part, which is so many words wide: left, right or a leaf.
-    Tag(u32, u32),
+    Tag { mark: u32, width: u32 },
     /// Chooses by a sum, whose left and right parts are so wide.
-    CaseSum(u32, u32),
+    CaseSum { left: u32, right: u32 },
     Empty,
     /// Builds a list's cell, whose element is so wide.
     Cons(u32),

@@ -1,12 +1,12 @@
 -- What a number is written as: its length, that it is read back, that no form is shorter, and the writing of it byte by byte.
-use Rattle.std.proofs.Common.{◌≡◌, ℕ, zero, suc, ◌+◌, ◌-◌, ◌*◌, ◌/◌, ◌%◌, ◌^◌, ◌<◌, ◌≤◌, max, ◌⊎◌, List, [], ◌∷◌, ◌++◌, length, take, drop, set, sym, refl, ap, ◌∙◌, subst, inl, inr, pow-suc, arith, drop_at, pow_mono, pow-add, shr_lt, le-ltb, lt-ltb, le-leb}
+use Rattle.std.proofs.Common.{◌≡◌, ℕ, zero, suc, ◌+◌, ◌-◌, ◌*◌, ◌/◌, ◌%◌, ◌^◌, ◌<◌, ◌≤◌, max, ◌⊎◌, List, [], ◌∷◌, ◌++◌, length, get_or, take, drop, set, sym, refl, ap, ◌∙◌, subst, ap₂, inl, inr, pow-suc, arith, drop_at, pow_mono, pow-add, shr_lt, le-ltb, lt-ltb, le-leb}
 use Rattle.std.proofs.lemmas.Bool.{cases_lt}
-use lib.Seq.{sets, sets-eq}
+use lib.Seq.{sets, sets-eq, set-append_seam}
 use lib.Count.{count_leading_zeros, leading_length}
 use borrow.Author.Tests.{lt-leb}
 use Rattle.codec.specs.Number.{Numeral, got, ended, overlong, before, numeral, number, spelling, written}
 use Rattle.codec.specs.Reading.{done, begun, number_at}
-use Rattle.std.proofs.lemmas.List.{append_assoc, length-take-le}
+use Rattle.std.proofs.lemmas.List.{append_assoc, drop-drop, drop_all, drop_more, length-append, length-take-le, take_all, take_more_set}
 
 pub one_byte : (left n : ℕ) → n < 128 → spelling left n ≡ n ∷ []
 unfolding spelling
@@ -73,52 +73,6 @@ read_spelling (suc left) n rest h = go (read_spelling left (n / 128) rest) (case
 pub read_written : (n : ℕ) (rest : List ℕ) → n < 2 ^ 32 → number (written n ++ rest) ≡ got n (length (written n))
 read_written n rest h = read_spelling 4 n rest h
 
--- where the writing of n from `start` on stands: `rest` is still to be written, from `at` on
-abbrev pub Writing : List ℕ → ℕ → ℕ → List ℕ → ℕ → ℕ → Type 0
-Writing out₀ start n out at rest =
-    (sets out at (spelling (4 - (at - start)) rest) ≡ sets out₀ start (written n))
-    × (at + length (spelling (4 - (at - start)) rest) ≡ start + length (written n))
-    × (start ≤ at) × (at ≤ start + 4) × (rest < 2 ^ (32 - 7 * (at - start)))
-
-pub writing_none : (out : List ℕ) (start n : ℕ) → n < 2 ^ 32 → Writing out start n out start n
-writing_none out start n h =
-    let z : start - start ≡ 0 = omega arith in
-    rw z (refl, refl, omega arith, omega arith, h)
-
-fewer : (k rest : ℕ) → k ≤ 4 → 128 ≤ rest → rest < 2 ^ (32 - 7 * k) → k < 4
-fewer k rest h b f = go (cases_lt k 4)
-  where
-    go : (k < 4) ⊎ (4 ≤ k) → k < 4
-    go (inl l) = l
-    go (inr l) =
-        let e : k ≡ 4 = omega arith in
-        absurd (omega (arith, ap (λ x. 2 ^ (32 - 7 * x)) e))
-
-pub writing_more : (out₀ : List ℕ) (start n : ℕ) (out : List ℕ) (at rest : ℕ) → Writing out₀ start n out at rest → 128 ≤ rest
-    → Writing out₀ start n (set out at (rest % 128 + 128)) (at + 1) (rest / 128)
-writing_more out₀ start n out at rest w b =
-    let k = at - start in
-    let few : k < 4 = fewer k rest (omega arith) b w.4 in
-    let left : 4 - k ≡ suc (4 - ((at + 1) - start)) = omega arith in
-    let e : spelling (4 - k) rest ≡ (rest % 128 + 128) ∷ spelling (4 - ((at + 1) - start)) (rest / 128) =
-    ap (λ x. spelling x rest) left ∙ more_bytes (4 - ((at + 1) - start)) rest b in
-    let j = 32 - 7 * ((at + 1) - start) in
-    let split : 32 - 7 * k ≡ j + 7 = omega arith in
-    let next : suc at ≡ at + 1 = omega arith in (
-      sym (ap (λ x. sets (set out at (rest % 128 + 128)) x (spelling (4 - ((at + 1) - start)) (rest / 128))) next)
-          ∙ sym (ap (sets out at) e) ∙ w.0,
-      omega (arith, ap length e, w.1),
-      omega arith,
-      omega arith,
-      shr_lt j 7 (subst (λ x. rest < 2 ^ x) split w.4),
-    )
-
-pub writing_last : (out₀ : List ℕ) (start n : ℕ) (out : List ℕ) (at rest : ℕ) → Writing out₀ start n out at rest → rest < 128
-    → (set out at rest ≡ sets out₀ start (written n)) × (at + 1 ≡ start + length (written n))
-writing_last out₀ start n out at rest w b =
-    let e = one_byte (4 - (at - start)) rest b in
-    (sym (ap (sets out at) e) ∙ w.0, omega (arith, ap length e, w.1))
-
 pub some_bytes : (left n : ℕ) → 0 < length (spelling left n)
 unfolding spelling
 some_bytes zero n = omega arith
@@ -127,6 +81,74 @@ some_bytes (suc left) n = go (cases_lt n 128)
     go : (n < 128) ⊎ (128 ≤ n) → 0 < length (spelling (suc left) n)
     go (inl s) = omega (arith, ap length (one_byte (suc left) n s))
     go (inr s) = omega (arith, ap length (more_bytes left n s))
+
+-- a spelling of two bytes or more is that of a number above one byte, with room for another
+two_bytes : (left n : ℕ) → 2 ≤ length (spelling left n) → (0 < left) × (128 ≤ n)
+unfolding spelling
+two_bytes zero n h = absurd (omega arith)
+two_bytes (suc left) n h = go (cases_lt n 128)
+  where
+    go : (n < 128) ⊎ (128 ≤ n) → (0 < suc left) × (128 ≤ n)
+    go (inl s) = absurd (omega (arith, ap length (one_byte (suc left) n s)))
+    go (inr s) = (omega arith, s)
+
+-- where the writing of n stands, after k groups: those are in the first of the slots, and `rest` is still to be written
+pub record Writing (n : ℕ) (slots : List ℕ) (k rest : ℕ) : Type 0 where
+  pub spelt : take k slots ++ spelling (4 - k) rest ≡ written n
+  pub few : k ≤ 4
+  pub small : rest < 2 ^ (32 - 7 * k)
+
+pub writing_none : (n : ℕ) (slots : List ℕ) → n < 2 ^ 32 → Writing n slots 0 n
+writing_none n slots h = record { spelt = refl; few = omega arith; small = h }
+
+left_over : (n : ℕ) (slots : List ℕ) (k rest : ℕ) → Writing n slots k rest → k ≤ length slots → k + length (spelling (4 - k) rest) ≡ length (written n)
+left_over n slots k rest w h =
+    omega (arith, ap length w.spelt, length-append (take k slots) (spelling (4 - k) rest), length-take-le k slots h)
+
+pub writing_more : (n : ℕ) (slots : List ℕ) (k rest : ℕ) → Writing n slots k rest → k < length slots → length slots + 1 ≡ length (written n)
+    → Writing n (set slots k (rest % 128 + 128)) (k + 1) (rest / 128)
+writing_more n slots k rest w l f =
+    let two = two_bytes (4 - k) rest (omega (arith, left_over n slots k rest w (omega arith))) in
+    let left : 4 - k ≡ suc (4 - (k + 1)) = omega (arith, two.0) in
+    let b = rest % 128 + 128 in
+    let e : spelling (4 - k) rest ≡ b ∷ spelling (4 - (k + 1)) (rest / 128) = ap (λ x. spelling x rest) left ∙ more_bytes (4 - (k + 1)) rest two.1 in
+    let split : 32 - 7 * k ≡ (32 - 7 * (k + 1)) + 7 = omega (arith, two.0) in
+    record {
+      spelt = ap (λ xs. xs ++ spelling (4 - (k + 1)) (rest / 128)) (take_more_set slots k b l) ∙ append_assoc (take k slots) (b ∷ []) _
+          ∙ ap (λ xs. take k slots ++ xs) (sym e) ∙ w.spelt;
+      few = omega (arith, two.0);
+      small = shr_lt (32 - 7 * (k + 1)) 7 (subst (λ x. rest < 2 ^ x) split w.small);
+    }
+
+-- one byte is left, where all slots but one are filled
+pub writing_last : (n : ℕ) (slots : List ℕ) (k rest : ℕ) → Writing n slots k rest → length slots ≡ k → k + 1 ≡ length (written n)
+    → (rest < 128) × (slots ++ rest ∷ [] ≡ written n)
+writing_last n slots k rest w l f = go (cases_lt rest 128) (cases_lt k 4)
+  where
+    ends : rest < 128 → (rest < 128) × (slots ++ rest ∷ [] ≡ written n)
+    ends b = (b, ap₂ (λ xs ys. xs ++ ys) (sym (take_all k slots (omega arith))) (sym (one_byte (4 - k) rest b)) ∙ w.spelt)
+
+    go : (rest < 128) ⊎ (128 ≤ rest) → (k < 4) ⊎ (4 ≤ k) → (rest < 128) × (slots ++ rest ∷ [] ≡ written n)
+    go (inl b) h = ends b
+    go (inr b) (inl h) =
+        let left : 4 - k ≡ suc (4 - (k + 1)) = omega arith in
+        let e = ap (λ x. length (spelling x rest)) left ∙ ap length (more_bytes (4 - (k + 1)) rest b) in
+        absurd (omega (arith, left_over n slots k rest w (omega arith), e, some_bytes (4 - (k + 1)) (rest / 128)))
+    go (inr b) (inr h) =
+        let four : k ≡ 4 = omega (arith, w.few) in
+        absurd (omega (arith, w.small, ap (λ x. 2 ^ (32 - 7 * x)) four))
+
+-- all slots but the last are those given, and the last is set
+pub last_set : (front slots : List ℕ) (last y : ℕ) → length front ≡ last → length slots ≡ last + 1 → set (front ++ drop last slots) last y ≡ front ++ y ∷ []
+last_set front slots last y e f =
+    ap (λ xs. set (front ++ xs) last y) (drop_more slots last 0 (omega arith) ∙ ap (λ xs. get_or slots last 0 ∷ xs) (drop_all (last + 1) slots (omega arith)))
+    ∙ ap (λ i. set (front ++ get_or slots last 0 ∷ []) i y) (sym e) ∙ set-append_seam front (get_or slots last 0) [] y
+
+-- an area, with the bytes in the place of as many from `start` on
+pub put_there : (area bs : List ℕ) (start k : ℕ) → start + length bs ≤ length area → k ≡ length bs → take start area ++ (bs ++ drop k (drop start area)) ≡ sets area start bs
+put_there area bs start k h e =
+    ap (λ xs. take start area ++ (bs ++ xs)) (ap (λ j. drop j (drop start area)) e ∙ drop-drop (length bs) start area)
+    ∙ sym (append_assoc (take start area) bs _) ∙ sym (sets-eq bs area start h)
 
 -- what is written into an area is read from it again
 pub read_area : (area : List ℕ) (start n : ℕ) → n < 2 ^ 32 → start + length (written n) ≤ length area

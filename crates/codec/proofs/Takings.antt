@@ -1,6 +1,5 @@
 -- How readings follow one another: what is known of a call that makes several, from what is known of each. (Other crates cite these.)
 use Rattle.std.proofs.Common.{◌≡◌, ℕ, suc, ◌+◌, ◌-◌, ◌<◌, ◌≤◌, Bool, true, false, cond, ◌&&◌, eqb, ltb, leb, List, [], ◌∷◌, ◌++◌, drop, Ok, Err, Result, sym, refl, ap, ◌∙◌, subst, ap₂, arith}
-use borrow.Author.Tests.{clash, true-leb, true-ltb}
 use Rattle.codec.specs.Number.{Numeral, got, ended, overlong, number}
 use Rattle.codec.specs.Reading.{Scan, done, refused, then, begun, number_at, within_at, mark_at, many_at, Answered, Takes, found}
 use Rattle.codec.specs.declared.cursor.Cursor.{Cursor}
@@ -119,14 +118,6 @@ test_fails lo hi start v bs p h = rw (sym h) refl
 pub test_passes : (lo hi start v : ℕ) (bs : List ℕ) (p : ℕ) → true ≡ (leb lo v && ltb v hi) → tested lo hi start v bs p ≡ done v p
 unfolding tested
 test_passes lo hi start v bs p h = rw (sym h) refl
-
-both : (a b : Bool) → true ≡ (a && b) → (true ≡ a) × (true ≡ b)
-both true b h = (refl, h)
-both false b h = absurd (clash (sym h))
-
--- what the test says of a number that passes it
-pub in_bounds : (lo hi v : ℕ) → true ≡ (leb lo v && ltb v hi) → (lo ≤ v) × (v < hi)
-in_bounds lo hi v h = let t = both (leb lo v) (ltb v hi) h in (true-leb lo v t.0, true-ltb v hi t.1)
 
 -- the cursor put back to where it was
 pub put_back : (c c' : Cursor) → c'.bytes ≡ c.bytes → c'.part ≡ c.part → ◌≡◌ {A = Cursor} (record { bytes = c'.bytes; at = c.at; part = c'.part }) c

@@ -1,5 +1,5 @@
 -- What a pile holds: entries in the first of its slots, the top one last.
-use Rattle.std.specs.Prelude.{◌≡◌, ℕ, ◌≤◌, List, [], ◌∷◌, reverse, length, take, Some, None, Option}
+use Rattle.std.specs.Prelude.{◌≡◌, ℕ, List, [], ◌∷◌, reverse, length, take, Some, None, Option}
 use Rattle.codec.specs.declared.pile.Pile.{Pile}
 
 -- the entries that stand in the first `len` slots, the last one first
@@ -13,10 +13,6 @@ held p = top_first p.slots.now p.len
 -- how many entries it has room for
 abbrev pub room : {X : Type 0} → Pile X → ℕ
 room p = length p.slots.now
-
--- it counts no more entries than it has room for
-abbrev pub Sound : {X : Type 0} → Pile X → Type 0
-Sound p = p.len ≤ room p
 
 -- what a pop answers and leaves: none of an empty pile, else the top entry and the others
 abbrev pub Popped : {X : Type 0} → List X → Option X → List X → Type 0

@@ -1,4 +1,4 @@
-ghost use Rattle.std.specs.Prelude.{◌≡◌, ◌+◌, ◌-◌, ◌<◌, ◌≤◌, ◌&&◌, IfOk, ◌==◌, nat_le, nat_lt};
+ghost use Rattle.std.specs.Prelude.{◌≡◌, ◌+◌, ◌-◌, ◌<◌, ◌≤◌, ◌&&◌, IfOk, MatchBool, ◌==◌, nat_le, nat_lt};
 ghost use Rattle.codec.specs.Reading.{Finds, Stays, Takes, mark_at, number_at, within_at};
 
 use crate::fault::{Fault, Part, Refusal};
@@ -45,6 +45,7 @@ impl<'a> Cursor<'a> {
         ensures stays { Stays self.old result self.new }
     {
         let start = self.at;
+        // (Not by `map_err`: nothing is known of what a closure that borrows the cursor answers, so the proof did not close.)
         match number_at(self.bytes, start) {
             Ok((value, end)) => {
                 self.at = end;
@@ -74,8 +75,7 @@ impl<'a> Cursor<'a> {
         ensures takes { Takes mark_at self.old result self.new }
         ensures stays { Stays self.old result self.new }
     {
-        let n = self.within(0, 2)?;
-        Ok(is_one(n))
+        Ok(self.within(0, 2)? == 1)
     }
 }
 
@@ -83,55 +83,42 @@ impl<'a> Cursor<'a> {
 fn in_range(n: u32, low: u32, high: u32) -> bool
     ensures { result ≡ (nat_le low n && nat_lt n high) }
 {
-    low <= n && n < high
-}
-
-// Whether a mark is 1.
-fn is_one(mark: u32) -> bool
-    ensures { result ≡ (mark == 1) }
-{
-    mark == 1
+    (low..high).contains(&n)
 }
 
 // Whether this byte says that another follows: its top bit is set.
 fn continues(byte: u8) -> bool
-    ensures { result ≡ nat_le 128 byte }
+    ensures { MatchBool result (128 ≤ byte) (byte < 128) }
 {
     byte >= 128
 }
 
-// Whether this can be a fifth byte: the four groups below it have 28 of a number's 32 bits.
-fn fits_fifth(byte: u8) -> bool
-    ensures { result ≡ nat_le byte 15 }
+// Whether this can be the byte after so many others: the first four groups have 28 of a number's 32 bits, so a fifth is at most 15.
+fn fits(others: usize, byte: u8) -> bool
+    ensures { MatchBool result (4 ≤ others → byte ≤ 15) ((4 ≤ others) × (15 < byte)) }
 {
-    byte <= 15
+    others < 4 || byte <= 15
 }
 
 // The number that begins at `start`, and the place after it.
 pub fn number_at(bytes: &[u8], start: usize) -> Result<(u32, usize), Refusal>
     ensures { Finds bytes.now start result }
 {
-    let mut at = start;
-    let mut value = 0u32;
-    let mut scale = 1u32;
-    for _k in 0..4usize {
-        if at >= bytes.len() {
-            return Err(Refusal::Ended);
+    let Some(rest) = bytes.get(start..) else {
+        return Err(Refusal::Ended);
+    };
+    let mut value = 0;
+    let mut scale = 1;
+    for (k, &byte) in rest.iter().enumerate() {
+        let group = byte as u32;
+        if !fits(k, byte) {
+            return Err(Refusal::Overlong);
         }
-        let byte = bytes[at];
-        at += 1;
         if !continues(byte) {
-            return Ok((value + byte as u32 * scale, at));
+            return Ok((value + group * scale, start + k + 1));
         }
-        value += (byte as u32 - 128) * scale;
+        value += (group - 128) * scale;
         scale *= 128;
     }
-    if at >= bytes.len() {
-        return Err(Refusal::Ended);
-    }
-    let byte = bytes[at];
-    if !fits_fifth(byte) {
-        return Err(Refusal::Overlong);
-    }
-    Ok((value + byte as u32 * scale, at + 1))
+    Err(Refusal::Ended)
 }

@@ -7,9 +7,9 @@ pub fn zigzag(n: i32) -> u32
     ensures back { unzigzagged result ≡ n }
 {
     if n >= 0 {
-        2 * n.unsigned_abs()
+        2 * n as u32
     } else {
-        2 * (n + 1).unsigned_abs() + 1
+        2 * !n as u32 + 1
     }
 }
 
@@ -19,5 +19,5 @@ pub fn unzigzag(code: u32) -> i32
     ensures back { zigzagged result ≡ code }
 {
     let half = (code / 2) as i32;
-    if code % 2 == 0 { half } else { -1 - half }
+    if code % 2 == 0 { half } else { !half }
 }

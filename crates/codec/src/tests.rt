@@ -4,41 +4,45 @@ use crate::integer::unzigzag;
 use crate::pile::Pile;
 use crate::writer::{write_integer, write_number, written_len};
 
-// The number and the place of a refusal; zeros where there is none.
-fn told<T: Drop>(r: Result<T, Fault>) -> (u8, usize) {
-    match r {
-        Ok(_) => (0, 0),
-        Err(fault) => (fault.refusal.number(), fault.place),
-    }
-}
-
 #[test]
 fn long_forms_are_read(rt: HostRuntime) {
     let bytes = [
         5, 133, 0, 133, 128, 128, 128, 0, 172, 2, 255, 255, 255, 255, 15,
     ];
     let mut cursor = Cursor::new(&bytes, Part::Table);
-    assert_eq!(rt; cursor.number().ok(), Some(5));
-    assert_eq!(rt; cursor.number().ok(), Some(5));
-    assert_eq!(rt; cursor.number().ok(), Some(5));
-    assert_eq!(rt; cursor.number().ok(), Some(300));
-    assert_eq!(rt; cursor.number().ok(), Some(u32::MAX));
-    assert_eq!(rt; told(cursor.number()), (1, 15));
+    assert_eq!(rt; cursor.number(), Ok(5));
+    assert_eq!(rt; cursor.number(), Ok(5));
+    assert_eq!(rt; cursor.number(), Ok(5));
+    assert_eq!(rt; cursor.number(), Ok(300));
+    assert_eq!(rt; cursor.number(), Ok(u32::MAX));
+    assert_eq!(rt;
+        cursor.number().map_err(Fault::number_and_place),
+        Err((1, 15))
+    );
 }
 
 #[test]
 fn refusals_name_where_the_number_begins(rt: HostRuntime) {
     let mut ended = Cursor::new(&[1, 128], Part::Table);
-    assert_eq!(rt; ended.mark().ok(), Some(true));
-    assert_eq!(rt; told(ended.number()), (1, 1));
+    assert_eq!(rt; ended.mark(), Ok(true));
+    assert_eq!(rt;
+        ended.number().map_err(Fault::number_and_place),
+        Err((1, 1))
+    );
     assert_eq!(rt; ended.place(), 1);
     let mut overlong = Cursor::new(&[255, 255, 255, 255, 16], Part::Table);
-    assert_eq!(rt; told(overlong.number()), (2, 0));
+    assert_eq!(rt;
+        overlong.number().map_err(Fault::number_and_place),
+        Err((2, 0))
+    );
     let mut range = Cursor::new(&[0, 128, 1, 2], Part::Value);
-    assert_eq!(rt; range.mark().ok(), Some(false));
-    assert_eq!(rt; told(range.within(0, 128)), (3, 1));
-    assert_eq!(rt; range.within(128, 129).ok(), Some(128));
-    assert_eq!(rt; told(range.mark()), (3, 3));
+    assert_eq!(rt; range.mark(), Ok(false));
+    assert_eq!(rt;
+        range.within(0, 128).map_err(Fault::number_and_place),
+        Err((3, 1))
+    );
+    assert_eq!(rt; range.within(128, 129), Ok(128));
+    assert_eq!(rt; range.mark().map_err(Fault::number_and_place), Err((3, 3)));
 }
 
 #[test]
@@ -62,7 +66,7 @@ fn what_is_written_is_read(rt: HostRuntime) {
         assert_eq!(rt; write_number(&mut area, 0, n), Some(len));
         assert_eq!(rt; area[5], 7);
         let mut cursor = Cursor::new(&area, Part::Value);
-        assert_eq!(rt; cursor.number().ok(), Some(n));
+        assert_eq!(rt; cursor.number(), Ok(n));
         assert_eq!(rt; cursor.place(), len);
     }
 }

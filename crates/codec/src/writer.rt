@@ -22,7 +22,7 @@ fn groups_of(bits: usize) -> usize
     requires { bits ≤ 32 }
     ensures { result ≡ max ((bits + 6) / 7) 1 }
 {
-    ((bits + 6) / 7).max(1)
+    bits.div_ceil(7).max(1)
 }
 
 // Writes a number into the area from `start` on, and answers the place after it; none where it does not fit.
@@ -30,10 +30,12 @@ pub fn write_number(area: &mut [u8], start: usize, n: u32) -> Option<usize>
     ensures writes { Writes (written n) start area.old result area.new }
     ensures reads { ReadsBack n start result area.new }
 {
-    if start > area.len() || written_len(n) > area.len() - start {
+    let end = start.checked_add(written_len(n))?;
+    if end > area.len() {
         return None;
     }
-    Some(write_groups(area, start, n))
+    write_groups(&mut area[start..end], n);
+    Some(end)
 }
 
 // Writes an integer in the same way.
@@ -44,19 +46,16 @@ pub fn write_integer(area: &mut [u8], start: usize, n: i32) -> Option<usize>
     write_number(area, start, zigzag(n))
 }
 
-// Writes the groups of a number for which there is room.
-fn write_groups(area: &mut [u8], start: usize, n: u32) -> usize
-    requires { start + length (written n) ≤ length area.old }
-    ensures area { area.new ≡ sets area.old start (written n) }
-    ensures place { result ≡ start + length (written n) }
+// Writes the groups of a number, each in one of the slots, of which there are just enough.
+fn write_groups(slots: &mut [u8], n: u32)
+    requires { length slots.old ≡ length (written n) }
+    ensures { slots.new ≡ written n }
 {
-    let mut at = start;
+    let last = slots.len() - 1;
     let mut rest = n;
-    while rest >= 128 {
-        area[at] = (rest % 128 + 128) as u8;
+    for slot in slots[..last].iter_mut() {
+        *slot = (rest % 128 + 128) as u8;
         rest /= 128;
-        at += 1;
     }
-    area[at] = rest as u8;
-    at + 1
+    slots[last] = rest as u8;
 }

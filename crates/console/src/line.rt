@@ -4,6 +4,7 @@ ghost use Rattle.std.specs.Prelude.{◌≡◌, ℕ, ◌+◌, ◌-◌, ◌*◌, �
 ghost use Rattle.std.specs.Option.{ok_or};
 ghost use Rattle.console.specs.Decimal.{number_of, with_figure};
 
+use programmer::play::Call;
 use std::alloc::{AllocError, AllocFailed, Global};
 use std::fmt;
 
@@ -17,21 +18,67 @@ pub enum PoolChoice {
     ReserveBlock { most: u32, words: u32 },
 }
 
+impl PoolChoice {
+    /// How many words the pool's block has; without one none.
+    pub fn words(self) -> u32 {
+        match self {
+            PoolChoice::Block { words }
+            | PoolChoice::Pair { words }
+            | PoolChoice::ReserveBlock { most: _, words } => words,
+            PoolChoice::Own | PoolChoice::Reserve { most: _ } => 0,
+        }
+    }
+}
+
 /// A call as a line asks for it.
 #[derive(Drop)]
 pub enum Asked {
-    Adopt(Vec<u8>),
-    Put(u32, u32, Vec<u8>),
-    Show(u32, u32),
+    Adopt {
+        bytes: Vec<u8>,
+    },
+    Put {
+        shelf: u32,
+        type_number: u32,
+        bytes: Vec<u8>,
+    },
+    Show {
+        shelf: u32,
+        room: u32,
+    },
     Spare,
-    Empty(u32),
+    Empty {
+        shelf: u32,
+    },
 }
 
-/// What a line comes to.
+impl<'a> From<&'a Asked> for Call<'a> {
+    fn from(asked: &'a Asked) -> Self {
+        match asked {
+            Asked::Adopt { bytes } => Call::Adopt {
+                bytes: bytes.as_slice(),
+            },
+            Asked::Put {
+                shelf,
+                type_number,
+                bytes,
+            } => Call::Put {
+                shelf: *shelf,
+                type_number: *type_number,
+                bytes: bytes.as_slice(),
+            },
+            Asked::Show { shelf, room } => Call::Show {
+                shelf: *shelf,
+                room: *room as usize,
+            },
+            Asked::Spare => Call::Spare,
+            Asked::Empty { shelf } => Call::Empty { shelf: *shelf },
+        }
+    }
+}
+
+/// What a line asks for.
 #[derive(Drop)]
 pub enum Line {
-    // a blank line, or a comment
-    Nothing,
     Pool(PoolChoice),
     BoxNumber(u32),
     Call(Asked),
@@ -78,18 +125,11 @@ impl fmt::Display for Mistake {
 fn appended(n: u32, figure: u8) -> Option<u32>
     ensures { result ≡ with_figure n figure }
 {
-    if figure < b'0' || figure > b'9' {
-        return None;
-    }
-    let grown = 10 * n as u64 + (figure - b'0') as u64;
-    if grown > u32::MAX as u64 {
-        None
-    } else {
-        Some(grown as u32)
-    }
+    let value = char::from(figure).to_digit(10)?;
+    n.checked_mul(10)?.checked_add(value)
 }
 
-/// The number that decimal figures spell: none where there is no figure, a character is none, or 32 bits do not hold it.
+/// The number that decimal figures spell: none where there is no figure, a character is none, or 32 bits do not hold it. (`parse` would take a leading `+`.)
 pub fn decimal(figures: &[u8]) -> Option<u32>
     ensures { result ≡ number_of figures.now }
 {
@@ -110,16 +150,14 @@ fn number(word: &str) -> Result<u32, Mistake>
     decimal(word.as_bytes()).ok_or(Mistake::NotANumber)
 }
 
+// A word as a byte.
+fn byte(word: &str) -> Result<u8, Mistake> {
+    u8::try_from(number(word)?).map_err(|_| Mistake::OverAByte)
+}
+
 // The words as bytes.
 fn bytes(heap: Global, words: &[&str]) -> Result<Vec<u8>, Mistake> {
-    let mut all = Vec::new(heap);
-    for word in words {
-        match u8::try_from(number(word)?) {
-            Ok(byte) => all.push(byte)?,
-            Err(_) => return Err(Mistake::OverAByte),
-        }
-    }
-    Ok(all)
+    words.iter().map(|word| byte(word)).try_collect(heap)
 }
 
 // The pool that the words after `pool` choose.
@@ -146,28 +184,36 @@ fn pool(words: &[&str]) -> Result<PoolChoice, Mistake> {
 // The call that the words ask for.
 fn call(heap: Global, words: &[&str]) -> Result<Asked, Mistake> {
     match words {
-        ["adopt", table @ ..] => Ok(Asked::Adopt(bytes(heap, table)?)),
-        ["put", shelf, kind, value @ ..] => Ok(Asked::Put(
-            number(shelf)?,
-            number(kind)?,
-            bytes(heap, value)?,
-        )),
-        ["show", shelf, room] => Ok(Asked::Show(number(shelf)?, number(room)?)),
+        ["adopt", table @ ..] => Ok(Asked::Adopt {
+            bytes: bytes(heap, table)?,
+        }),
+        ["put", shelf, type_number, value @ ..] => Ok(Asked::Put {
+            shelf: number(shelf)?,
+            type_number: number(type_number)?,
+            bytes: bytes(heap, value)?,
+        }),
+        ["show", shelf, room] => Ok(Asked::Show {
+            shelf: number(shelf)?,
+            room: number(room)?,
+        }),
         ["spare"] => Ok(Asked::Spare),
-        ["empty", shelf] => Ok(Asked::Empty(number(shelf)?)),
+        ["empty", shelf] => Ok(Asked::Empty {
+            shelf: number(shelf)?,
+        }),
         ["start" | "carry" | "collect" | "abandon" | "discard", ..] => Err(Mistake::NotYet),
         _ => Err(Mistake::NotACall),
     }
 }
 
-/// What a line asks for.
-pub fn understood(heap: Global, text: &str) -> Result<Line, Mistake> {
+/// What a line asks for: nothing where it is blank or a comment.
+pub fn understood(heap: Global, text: &str) -> Result<Option<Line>, Mistake> {
     let words: Vec<&str> = text.split_whitespace().collect(heap)?;
-    match words.as_slice() {
-        [] => Ok(Line::Nothing),
-        [first, ..] if first.starts_with("#") => Ok(Line::Nothing),
-        ["pool", choice @ ..] => Ok(Line::Pool(pool(choice)?)),
-        ["box", n] => Ok(Line::BoxNumber(number(n)?)),
-        all => Ok(Line::Call(call(heap, all)?)),
-    }
+    let line = match words.as_slice() {
+        [] => return Ok(None),
+        [first, ..] if first.starts_with("#") => return Ok(None),
+        ["pool", choice @ ..] => Line::Pool(pool(choice)?),
+        ["box", n] => Line::BoxNumber(number(n)?),
+        all => Line::Call(call(heap, all)?),
+    };
+    Ok(Some(line))
 }

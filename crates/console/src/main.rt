@@ -27,15 +27,14 @@ fn play_text(rt: HostRuntime, text: &str) -> io::Result<()> {
 }
 
 fn main(rt: HostRuntime) -> io::Result<()> {
-    let mut named = false;
-    for name in env::args(&rt)?.skip(1) {
-        named = true;
-        let text = fs::read_to_string(&rt, name.as_str())?;
-        play_text(rt, text.as_str())?;
-    }
-    if !named {
+    let names: Vec<String> = env::args(&rt)?.skip(1).collect(rt.alloc())?;
+    if names.is_empty() {
         let mut text = String::new(rt.alloc());
         rt.stdin().read_to_string(&mut text)?;
+        return play_text(rt, text.as_str());
+    }
+    for name in names.iter() {
+        let text = fs::read_to_string(&rt, name.as_str())?;
         play_text(rt, text.as_str())?;
     }
     Ok(())

@@ -1,15 +1,15 @@
 //! Plays a script's calls over its pool, and prints what is heard.
 
-use crate::line::{Asked, PoolChoice};
+use crate::line::PoolChoice;
 use crate::script::Script;
-use codec::fault::{Fault, Part, Refusal};
+use codec::fault::Fault;
 use pool::Pool;
 use pool::block::BlockPool;
 use pool::own::OwnPool;
 use pool::pair::PairPool;
 use pool::reserve::ReservePool;
 use programmer::Programmer;
-use programmer::play::{Answer, Call, Listener, play};
+use programmer::play::{Answer, Call, Listener, Making, play};
 use std::io;
 
 // No value has more bytes: 512 cells and a shelf of sixteen words each, five bytes a word.
@@ -18,49 +18,13 @@ const MOST_BYTES: usize = 65536;
 // More words than these make no more cells in a block.
 const MOST_WORDS: u32 = 8704;
 
-// what a part is called
-fn part_name(part: Part) -> &'static str {
-    match part {
-        Part::Table => "table",
-        Part::Value => "value",
-        Part::Judgement => "judgement",
-        Part::Programmer => "programmer",
-    }
-}
-
-// A refusal in a few plain words.
-fn explained(refusal: Refusal) -> &'static str {
-    match refusal {
-        Refusal::Ended => "the bytes end in or before a number",
-        Refusal::Overlong => "a number's fifth byte is over 15",
-        Refusal::OutOfRange => "a count, kind, operator, mark or reference is out of range",
-        Refusal::EntryRepeated => "a type is listed twice",
-        Refusal::TooWide => "a type is too wide",
-        Refusal::TooManyExpressions => "more than 512 expressions",
-        Refusal::TooManyVariables => "more than 32 variables in scope",
-        Refusal::BytesOver => "bytes are left over",
-        Refusal::TypeFault => "the types do not fit",
-        Refusal::Sharing => "a variable that holds cells is used twice",
-        Refusal::NoSuchShelf => "there is no such shelf",
-        Refusal::NoSuchTypeOrFunction => "there is no such type or function",
-        Refusal::ShelfFilled => "the shelf is filled",
-        Refusal::ShelfEmpty => "the shelf is empty",
-        Refusal::CellsLacking => "too few cells are spare",
-        Refusal::RunStands => "a run stands",
-        Refusal::TicketUnfit => "the ticket is of another box or of no standing run",
-        Refusal::AreaTooShort => "the area is too short",
-        Refusal::ArgumentsUnfit => "the arguments do not fit the function",
-        Refusal::ShelfFilledAtAdopt => "a shelf is filled",
-    }
-}
-
-// what a call that is granted is answered
+// what a call that is granted is answered (no `Display` of a call: that would print the call)
 fn granted(call: Call) -> &'static str {
     match call {
-        Call::Adopt(_) => "adopted",
-        Call::Put(_, _, _) => "put",
-        Call::Empty(_) => "emptied",
-        Call::Show(_, _) | Call::Spare => "done",
+        Call::Adopt { .. } => "adopted",
+        Call::Put { .. } => "put",
+        Call::Empty { .. } => "emptied",
+        Call::Show { .. } | Call::Spare => "done",
     }
 }
 
@@ -80,33 +44,27 @@ fn print_shown(rt: HostRuntime, shown: &[u8]) -> io::Result<()> {
     println!(rt; "")
 }
 
-// a refusal
-fn print_fault(rt: HostRuntime, fault: Fault) -> io::Result<()> {
-    let number = fault.refusal.number();
-    let place = fault.place;
-    let part = part_name(fault.part);
-    let words = explained(fault.refusal);
-    println!(rt; "refused {number} at {place} ({part}): {words}")
-}
-
 // the answer to a call
-fn print_answer(rt: HostRuntime, call: Call, answer: Answer, shown: &[u8]) -> io::Result<()> {
+fn print_answer(
+    rt: HostRuntime,
+    call: Call,
+    answer: Result<Answer, Fault>,
+    shown: &[u8],
+) -> io::Result<()> {
     match answer {
-        Answer::Granted => println!(rt; "{}", granted(call)),
-        Answer::Shown(_) => print_shown(rt, shown),
-        Answer::Spare(n) => println!(rt; "spare {n}"),
-        Answer::Refused(fault) => print_fault(rt, fault),
+        Ok(Answer::Granted) => println!(rt; "{}", granted(call)),
+        Ok(Answer::Shown(_)) => print_shown(rt, shown),
+        Ok(Answer::Spare(n)) => println!(rt; "spare {n}"),
+        Err(fault) => println!(rt; "{fault}"),
     }
 }
 
 impl<P: Pool> Listener<P> for Printer {
     fn hear(
         &mut self,
-        _cells: u32,
-        _box_number: u32,
-        _room: usize,
+        _making: Making,
         calls: &[Call],
-        answer: Option<Answer>,
+        answer: Option<Result<Answer, Fault>>,
         shown: &[u8],
         _programmer: &Programmer<P>,
     ) {
@@ -119,74 +77,39 @@ impl<P: Pool> Listener<P> for Printer {
     }
 }
 
-// the call that a line asks for
-fn as_call(asked: &Asked) -> Call<'_> {
-    match asked {
-        Asked::Adopt(bytes) => Call::Adopt(bytes.as_slice()),
-        Asked::Put(shelf, kind, bytes) => Call::Put(*shelf, *kind, bytes.as_slice()),
-        Asked::Show(shelf, room) => Call::Show(*shelf, *room as usize),
-        Asked::Spare => Call::Spare,
-        Asked::Empty(shelf) => Call::Empty(*shelf),
-    }
-}
-
-/// Plays the script's calls on a new programmer over its pool.
-pub fn play_over(rt: HostRuntime, script: &Script) -> io::Result<()> {
+// Plays the script's calls on a new programmer over the pool, and prints the answers.
+fn play_on<P: Pool + Drop>(rt: HostRuntime, script: &Script, pool: P) -> io::Result<()> {
     let heap = rt.alloc();
-    let mut calls = Vec::new(heap);
-    for asked in script.calls.iter() {
-        calls.push(as_call(asked))?;
-    }
-    let calls = calls.as_slice();
-    let number = script.box_number;
+    let calls: Vec<Call> = script.calls.iter().map(Call::from).collect(heap)?;
     let mut area = vec![in heap; 0u8; MOST_BYTES]?;
-    let area = area.as_mut_slice();
-    let words = match script.pool {
-        PoolChoice::Block { words }
-        | PoolChoice::Pair { words }
-        | PoolChoice::ReserveBlock { most: _, words } => words.min(MOST_WORDS),
-        PoolChoice::Own | PoolChoice::Reserve { most: _ } => 0,
-    };
-    let mut block = vec![in heap; 0u32; words as usize]?;
-    let block = BlockPool::new(block.as_mut_slice());
     let mut printer = Printer {
         rt,
         trouble: Ok(()),
     };
+    let _programmer = play(
+        pool,
+        script.box_number,
+        calls.as_slice(),
+        area.as_mut_slice(),
+        &mut printer,
+    );
+    printer.trouble
+}
+
+/// Plays the script's calls on a new programmer over its pool.
+pub fn play_over(rt: HostRuntime, script: &Script) -> io::Result<()> {
+    let words = script.pool.words().min(MOST_WORDS);
+    let mut block = vec![in rt.alloc(); 0u32; words as usize]?;
+    let block = BlockPool::new(block.as_mut_slice());
     match script.pool {
-        PoolChoice::Own => {
-            let _programmer = play(OwnPool::new(), number, calls, area, &mut printer);
-        }
-        PoolChoice::Block { words: _ } => {
-            let _programmer = play(block, number, calls, area, &mut printer);
-        }
-        PoolChoice::Pair { words: _ } => {
-            let _programmer = play(
-                PairPool::new(OwnPool::new(), block),
-                number,
-                calls,
-                area,
-                &mut printer,
-            );
-        }
+        PoolChoice::Own => play_on(rt, script, OwnPool::new()),
+        PoolChoice::Block { words: _ } => play_on(rt, script, block),
+        PoolChoice::Pair { words: _ } => play_on(rt, script, PairPool::new(OwnPool::new(), block)),
         PoolChoice::Reserve { most } => {
-            let _programmer = play(
-                ReservePool::new(OwnPool::new(), most),
-                number,
-                calls,
-                area,
-                &mut printer,
-            );
+            play_on(rt, script, ReservePool::new(OwnPool::new(), most))
         }
         PoolChoice::ReserveBlock { most, words: _ } => {
-            let _programmer = play(
-                ReservePool::new(block, most),
-                number,
-                calls,
-                area,
-                &mut printer,
-            );
+            play_on(rt, script, ReservePool::new(block, most))
         }
     }
-    printer.trouble
 }

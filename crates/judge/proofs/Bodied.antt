@@ -1,7 +1,6 @@
 -- The bodies of a listing, one after another.
-use Rattle.std.proofs.Common.{◌≡◌, ℕ, zero, suc, ◌+◌, ◌-◌, ◌<◌, ◌≤◌, ◌⊎◌, List, [], ◌∷◌, map, length, get_or, take, drop, set, Ok, Err, Result, sym, refl, ap, ◌∙◌, subst, inl, inr, le_of_suc-le-suc, not-suc-le-zero, arith, length-take}
+use Rattle.std.proofs.Common.{◌≡◌, ℕ, zero, suc, ◌+◌, ◌<◌, ◌≤◌, ◌⊎◌, List, [], ◌∷◌, map, length, get_or, take, drop, set, Ok, Err, Result, sym, refl, ap, ◌∙◌, subst, inl, inr, le_of_suc-le-suc, not-suc-le-zero, arith, length-take}
 use lib.ListN.{length-map}
-use Rattle.std.specs.Prelude.{IfOk}
 use Rattle.std.proofs.lemmas.List.{get_or-set_same, get_or-set_other, get_or-take, drop_more, drop_all}
 use Rattle.std.proofs.lemmas.Bool.{cases_lt}
 use Rattle.codec.specs.Reading.{done}
@@ -198,28 +197,21 @@ upto_none p notes begins = record {
   words = λ k h. absurd (not-suc-le-zero h);
 }
 
--- the signatures of a listing, as the code takes them
-abbrev part : Listing → List Signature
-part l = borrow.Rule.Slice.PartMut.mid_of 0 (l.functions - 0) l.signatures
-
-whole_part : (l : Listing) → part l ≡ take l.functions l.signatures
-whole_part l = ap (λ (n : ℕ). take n l.signatures) (let z : l.functions - 0 ≡ l.functions = omega arith in z)
-
--- what is read outside of them
+-- what is read outside the signatures of a listing
 abbrev pub no_signature : Signature
 no_signature = record { params = []; arity = 0; result = 0 }
 
 module _ (l : Listing) (p : Program) (h : Holds l p) (notes : List Note) (begins : List ℕ) (f n : ℕ) (u : Upto p notes begins f n) where
-  module _ (k : f < length (part l)) where
+  module _ (k : f < length (take l.functions l.signatures)) where
     within : f < length p.functions
-    within = let m = (held l p h).many in let e = ap length (whole_part l) in omega arith
+    within = let m = (held l p h).many in omega arith
 
-    pub body_posed : PosesBody l (get_or (part l) f no_signature) n p.types p.functions (fun_at p.functions f) (start_of p.functions (f + 1))
+    pub body_posed : PosesBody l (get_or (take l.functions l.signatures) f no_signature) n p.types p.functions (fun_at p.functions f) (start_of p.functions (f + 1))
     body_posed =
         let H = held l p h in
         record {
           basis = H.basis;
-          signs = subst (λ (x : List Signature). Signs p.types (get_or x f no_signature) (type_of (fun_at p.functions f))) (sym (whole_part l)) (H.signs f no_signature within);
+          signs = H.signs f no_signature within;
           stands = stands_at (names_of p.types p.functions) (listed_nodes l) (length (fun_at p.functions f).params) (start_of p.functions f) n
               (start_of p.functions (f + 1)) (start_of p.functions (f + 1)) (fun_at p.functions f).body (sym u.here) refl (H.stands f within);
         }
@@ -233,8 +225,8 @@ module _ (l : Listing) (p : Program) (h : Holds l p) (notes : List Note) (begins
         ∙ then_faulty (judge p.functions (fun_at p.functions f).body n (fun_at p.functions f).params) _ _ w i e
 
     pub upto_more : (notes' : List Note) (m : ℕ) → length notes' ≡ length notes → length begins ≡ 32
-        → PassedBody p.types p.functions (fun_at p.functions f) n (start_of p.functions (f + 1)) notes notes' m → NotedOverBody p.types p.functions notes' (fun_at p.functions f) n → Upto p notes' (set begins f n) (f + 1) m
-    upto_more notes' m long full b d =
+        → PassedBody p.types p.functions (fun_at p.functions f) n (start_of p.functions (f + 1)) notes notes' m → Upto p notes' (set begins f n) (f + 1) m
+    upto_more notes' m long full b =
         let e = start_more p.functions f within in
         let o = u.here in
         let q : n + size (fun_at p.functions f).body ≡ m = omega (arith, b.ends) in
@@ -250,7 +242,6 @@ module _ (l : Listing) (p : Program) (h : Holds l p) (notes : List Note) (begins
       where
         room : f < length begins
         room =
-            let e = ap length (whole_part l) in
             let t = length-take l.functions l.signatures in
             let g = h.few_functions in
             omega arith
@@ -271,24 +262,18 @@ module _ (l : Listing) (p : Program) (h : Holds l p) (notes : List Note) (begins
         over_at i (inr j) g =
             let z : f ≡ i = omega arith in
             subst (λ (x : ℕ). NotedOverBody p.types p.functions notes' (fun_at p.functions x) (start_of p.functions x)) z
-            (subst (NotedOverBody p.types p.functions notes' (fun_at p.functions f)) u.here d)
+            (subst (NotedOverBody p.types p.functions notes' (fun_at p.functions f)) u.here b.noted)
 
-  pub upto_all : length (part l) ≤ f → (program_verdict p ≡ fine tt) × Bodies p.types p.functions notes begins
+  pub upto_all : length (take l.functions l.signatures) ≤ f → (program_verdict p ≡ fine tt) × Bodies p.types p.functions notes begins × BodiesOver p.types p.functions notes
   upto_all k =
-      let m = (held l p h).many in
-      let e = ap length (whole_part l) in (
+      let m = (held l p h).many in (
         u.verdict ∙ ap (λ (x : List Fun). bodies_verdict p.functions x n) (drop_all f p.functions (omega arith)),
         record {
           starts = λ i j. u.starts i (omega arith);
           noted = λ i j. over_noted_body p.types p.functions notes (fun_at p.functions i) (start_of p.functions i) (u.words i (omega arith));
         },
+        record { words = λ i j. u.words i (omega arith) },
       )
-
-  pub bodies_over : length (part l) ≤ f → BodiesOver p.types p.functions notes
-  bodies_over k =
-      let m = (held l p h).many in
-      let e = ap length (whole_part l) in
-      record { words = λ i j. u.words i (omega arith) }
 
 -- ---- admission
 
@@ -300,9 +285,9 @@ judged_admits bs p q e (Ok t) a = (p, ap admitted e ∙ ap (judged p) a.0, a.1)
 judged_admits bs p q e (Err f) a =
     ap admitted e ∙ ap (judged p) a.verdict ∙ ap (λ x. Err (record { refusal = f.refusal; place = f.place; part = x })) (sym a.part)
 
-pub judged_over : (bs : List ℕ) (p : Program) (q : ℕ) → scanned_table bs ≡ done p q → (r : Result Table Fault) → AnswersListing p r → IfOk r (λ t. TellsOver t p) → AdmitsOver bs r
-judged_over bs p q e (Ok t) a l = λ p' h.
+pub judged_over : (bs : List ℕ) (p : Program) (q : ℕ) → scanned_table bs ≡ done p q → (r : Result Table Fault) → AnswersListing p r → AdmitsOver bs r
+judged_over bs p q e (Ok t) a = λ p' h.
     let s : admission bs ≡ Ok p = ap admitted e ∙ ap (judged p) a.0 in
     let u : p ≡ p' = cc in
-    subst (λ (x : Program). TellsOver t x) u l
-judged_over bs p q e (Err f) a l = tt
+    subst (λ (x : Program). TellsOver t x) u a.2
+judged_over bs p q e (Err f) a = tt

@@ -3,9 +3,8 @@ use Rattle.std.proofs.Common.{◌≡◌, ℕ, ◌+◌, ◌<◌, ◌≤◌, List,
 use Rattle.lfpl.specs.Syntax.{Ty, width, Head, Expr, Exprs, expr, end, ◌then◌, size, sizes, Fun}
 use Rattle.lfpl.specs.Typing.{rule}
 use Rattle.typing.specs.Codes.{Coded}
-use Rattle.judge.specs.Judging.{ArmsNoted}
-use Rattle.judge.specs.Over.{ArmsNotedOver, NotedOverAt, NotedOver, NotedOverAll, NotedOverArms, NotedOverBody}
-use Rattle.judge.specs.Notes.{note_at, offsets, widths, Noted, NotedAll, NotedArms, NotedBody}
+use Rattle.judge.specs.Over.{NotedOverAt, NotedOver, NotedOverAll, NotedOverArms, NotedOverBody}
+use Rattle.judge.specs.Notes.{note_at, offsets, widths, NotedAt, NotedBody, Each, EachPart, EachArm}
 use Rattle.judge.specs.declared.table.Note.{Note}
 
 -- the notes from n up to m are the same
@@ -62,39 +61,35 @@ module _ (ts : List Ty) (fs : List Fun) (notes notes' : List Note) (long : lengt
       kept_arms qs (n + size q) bs Γ places over B (λ i d l u. s i d (omega arith) (omega arith)) t.1,
     )
 
--- what is noted with its words is noted
-module _ (ts : List Ty) (fs : List Fun) (notes : List Note) where
+-- what says more at each expression says more of all
+module _ (fs : List Fun) (More Less : ℕ → Head → Exprs → Exprs → List Ty → List ℕ → ℕ → List Ty → Ty → Ty → Type 0)
+    (less : (n : ℕ) (h : Head) (ps qs : Exprs) (Γ : List Ty) (places : List ℕ) (over : ℕ) (As : List Ty) (B W : Ty) → More n h ps qs Γ places over As B W → Less n h ps qs Γ places over As B W) where
   mutual
-    pub over_noted : (e : Expr) (n : ℕ) (Γ : List Ty) (places : List ℕ) (over : ℕ) (W : Ty) → NotedOver ts fs notes e n Γ places over W → Noted ts fs notes e n Γ places over W
-    over_noted (expr h ps qs) n Γ places over W t = (
+    pub each_less : (e : Expr) (n : ℕ) (Γ : List Ty) (places : List ℕ) (over : ℕ) (W : Ty) → Each fs More e n Γ places over W → Each fs Less e n Γ places over W
+    each_less (expr h ps qs) n Γ places over W t = (
       t.0,
       t.1,
-      t.2.noted,
-      over_noted_all ps (n + 1) Γ places over t.0 t.3,
-      over_noted_arms qs (n + 1 + sizes ps) (rule fs Γ h t.0).arms Γ places over t.1 t.4,
+      less n h ps qs Γ places over t.0 t.1 W t.2,
+      part_less ps (n + 1) Γ places over t.0 t.3,
+      arm_less qs (n + 1 + sizes ps) (rule fs Γ h t.0).arms Γ places over t.1 t.4,
     )
 
-    pub over_noted_all : (es : Exprs) (n : ℕ) (Γ : List Ty) (places : List ℕ) (over : ℕ) (As : List Ty) → NotedOverAll ts fs notes es n Γ places over As
-        → NotedAll ts fs notes es n Γ places over As
-    over_noted_all end n Γ places over [] t = tt
-    over_noted_all end n Γ places over (A ∷ As) t = absurd t
-    over_noted_all (e then es) n Γ places over [] t = absurd t
-    over_noted_all (e then es) n Γ places over (A ∷ As) t =
-        (over_noted e n Γ places over A t.0, over_noted_all es (n + size e) Γ places (over + width A) As t.1)
+    part_less : (es : Exprs) (n : ℕ) (Γ : List Ty) (places : List ℕ) (over : ℕ) (As : List Ty) → EachPart fs More es n Γ places over As → EachPart fs Less es n Γ places over As
+    part_less end n Γ places over [] t = tt
+    part_less end n Γ places over (A ∷ As) t = absurd t
+    part_less (e then es) n Γ places over [] t = absurd t
+    part_less (e then es) n Γ places over (A ∷ As) t = (each_less e n Γ places over A t.0, part_less es (n + size e) Γ places (over + width A) As t.1)
 
-    pub over_noted_arms : (es : Exprs) (n : ℕ) (bs : List (List Ty)) (Γ : List Ty) (places : List ℕ) (over : ℕ) (B : Ty) → NotedOverArms ts fs notes es n bs Γ places over B
-        → NotedArms ts fs notes es n bs Γ places over B
-    over_noted_arms end n [] Γ places over B t = tt
-    over_noted_arms end n (b ∷ bs) Γ places over B t = absurd t
-    over_noted_arms (q then qs) n [] Γ places over B t = absurd t
-    over_noted_arms (q then qs) n (b ∷ bs) Γ places over B t = (
-      over_noted q n (Γ ++ b) (places ++ offsets over b) (over + widths b) B t.0,
-      over_noted_arms qs (n + size q) bs Γ places over B t.1,
-    )
+    arm_less : (es : Exprs) (n : ℕ) (bs : List (List Ty)) (Γ : List Ty) (places : List ℕ) (over : ℕ) (B : Ty) → EachArm fs More es n bs Γ places over B
+        → EachArm fs Less es n bs Γ places over B
+    arm_less end n [] Γ places over B t = tt
+    arm_less end n (b ∷ bs) Γ places over B t = absurd t
+    arm_less (q then qs) n [] Γ places over B t = absurd t
+    arm_less (q then qs) n (b ∷ bs) Γ places over B t =
+        (each_less q n (Γ ++ b) (places ++ offsets over b) (over + widths b) B t.0, arm_less qs (n + size q) bs Γ places over B t.1)
 
-  pub over_noted_body : (f : Fun) (n : ℕ) → NotedOverBody ts fs notes f n → NotedBody ts fs notes f n
-  over_noted_body f n t = over_noted f.body n f.params (offsets 0 f.params) (widths f.params) f.result t
-
-  pub arms_over_noted : (es : Exprs) (n : ℕ) (bs : List (List Ty)) (Γ : List Ty) (places : List ℕ) (over : ℕ) (Bs : List Ty) → ArmsNotedOver ts fs notes es n bs Γ places over Bs
-      → ArmsNoted ts fs notes es n bs Γ places over Bs
-  arms_over_noted es n bs Γ places over Bs t = λ B h. over_noted_arms es n bs Γ places over B (t B h)
+-- a body that is noted with its words is noted
+pub over_noted_body : (ts : List Ty) (fs : List Fun) (notes : List Note) (f : Fun) (n : ℕ) → NotedOverBody ts fs notes f n → NotedBody ts fs notes f n
+over_noted_body ts fs notes f n t =
+    each_less fs (NotedOverAt ts fs notes) (λ m h ps qs Γ places over As B W. NotedAt ts fs notes m h ps qs Γ places As B W)
+    (λ m h ps qs Γ places over As B W a. a.noted) f.body n f.params (offsets 0 f.params) (widths f.params) f.result t

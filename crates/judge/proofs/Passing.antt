@@ -1,5 +1,6 @@
 -- What passes the judge: an expression by its parts and arms, and several by the first and the rest.
-use Rattle.std.proofs.Common.{◌≡◌, ℕ, suc, ◌+◌, ◌*◌, ◌<◌, ◌≤◌, Bool, true, false, not, ◌&&◌, ◌||◌, ◌⊎◌, List, [], ◌∷◌, ◌++◌, map, length, get_or, take, set, replicate, sym, refl, ap, ◌∙◌, subst, ap₂, inl, inr, append_assoc, append-nil, arith, length-set, length-take}
+use Rattle.std.proofs.Common.{◌≡◌, ℕ, suc, ◌+◌, ◌-◌, ◌*◌, ◌<◌, ◌≤◌, Bool, true, false, not, ◌&&◌, ◌||◌, ◌⊎◌, List, [], ◌∷◌, ◌++◌, map, length, get_or, take, set, replicate, sym, refl, ap, ◌∙◌, subst, ap₂, inl, inr, append_assoc, append-nil, arith, length-set, length-take}
+use Rattle.arrayvec.specs.ArrayVec.{ArrayVec}
 use lib.Bits.{bit_or, bit_and}
 use lib.ListN.{length-map, length-replicate}
 use Rattle.std.proofs.lemmas.List.{get_or-set_same, get_or-set_other}
@@ -9,20 +10,21 @@ use Rattle.codec.specs.declared.fault.Refusal.{Refusal}
 use Rattle.lfpl.proofs.SameTypes.{same_eq}
 use Rattle.lfpl.specs.Judge.{Verdict, fine, faulty, judge, exprs_verdict, arms_verdict, shares}
 use Rattle.lfpl.specs.Reading.{shape}
-use Rattle.lfpl.specs.Syntax.{Ty, int, width, same_ty, Head, var, Expr, Exprs, expr, end, ◌then◌, size, sizes, Fun}
+use Rattle.lfpl.specs.Syntax.{Ty, width, same_ty, Head, var, Expr, Exprs, expr, end, ◌then◌, size, sizes, Fun}
 use Rattle.lfpl.specs.Typing.{rule, fits, early, alike, type_at, same_tys}
 use Rattle.tables.specs.Listed.{AllStand, head_of}
 use Rattle.tables.specs.declared.listing.Listing.{Listing}
 use Rattle.tables.specs.declared.listing.Node.{Node}
 use Rattle.tables.specs.declared.listing.Signature.{Signature}
 use Rattle.typing.specs.Codes.{Typed, Coded, CodedAll, Encodes, slot_type, slot_types}
-use Rattle.judge.specs.Judging.{listed_nodes, arms_from, counted, Poses, PosesAll, PosesArms, Passed, PassedAll, Earlier, Faulted}
-use Rattle.judge.specs.Over.{ArmsNotedOver, NotedOverAt, NotedOver, NotedOverAll, NotedOverArms}
+use Rattle.judge.specs.Judging.{listed_nodes, arms_from, counted, Posed, Poses, PosesAll, PosesArms, Passed, PassedAll, Earlier, Faulted, ArmsNoted}
+use Rattle.judge.specs.Over.{NotedOverAt, NotedOver, NotedOverAll, NotedOverArms}
 use Rattle.judge.specs.Notes.{note_at, offsets, widths}
-use Rattle.typing.specs.Rules.{Agrees, Says, Basis, Short, Known, subject, wanted, parts_of, asked, names_of}
-use Rattle.typing.specs.Scopes.{mask, masks, twice, head_mask}
-use Rattle.typing.specs.declared.codes.Row.{Row}
-use Rattle.typing.specs.declared.codes.Slots.{Slots}
+use Rattle.typing.specs.Rules.{Agrees, Says, Basis, Short, Known, subject, wanted, parts_of, asked, bound, names_of}
+use Rattle.typing.specs.Scopes.{Scopes, mask, masks, twice, head_mask}
+use Rattle.typing.specs.declared.codes.Code as C
+use Rattle.typing.specs.declared.codes.Code.TheVariants as Code
+use Rattle.typing.specs.declared.codes.Slot as S
 use Rattle.judge.specs.declared.judge.Found.{Found}
 use Rattle.judge.specs.declared.judge.Several.{Several}
 use Rattle.typing.specs.declared.rules.About as A
@@ -30,52 +32,51 @@ use Rattle.typing.specs.declared.rules.About.TheVariants as About
 use Rattle.typing.specs.declared.rules.Rule.{Rule}
 use Rattle.typing.specs.declared.scope.Scope.{Scope}
 use Rattle.judge.specs.declared.table.Note.{Note}
-use Rattle.typing.proofs.Coding.{code_cases, row_length}
-use Rattle.judge.proofs.Noting.{over_noted, kept, kept_all, kept_arms}
+use Rattle.typing.proofs.Coding.{coded_push}
+use Rattle.judge.proofs.Noting.{kept, kept_all, kept_arms}
 use Rattle.typing.proofs.Ruling.{arity_is}
-use Rattle.judge.proofs.Standing.{extent_all, stand_count, AtNode, all_at}
+use Rattle.judge.proofs.Standing.{extent, extent_all, stand_count, no_node, AtNode, at_node, at_first, parts_first, arms_first, no_slots, short_at, bound_length, in_scope, stands_small, all_at}
 use Rattle.judge.proofs.Verdicts.{all_judged, arms_judged}
 
 -- ---- widths
 
-pub code_narrow : (l : Listing) (ts : List Ty) → Typed l ts → (c : ℕ) (A : Ty) → Coded ts c A → width A ≤ 16
-code_narrow l ts t c A h = go (code_cases ts c A h)
-  where
-    go : ((c ≡ 64) × (A ≡ int)) ⊎ (((c ≡ 65) × (A ≡ Rattle.lfpl.specs.Syntax.diamond)) ⊎ ((c < length ts) × (type_at ts c ≡ A))) → width A ≤ 16
-    go (inl p) = let e = ap width p.1 in omega arith
-    go (inr (inl p)) = let e = ap width p.1 in omega arith
-    go (inr (inr p)) = let e = ap width p.1 in let n = t.types.narrow c p.0 in omega arith
+pub code_narrow : (l : Listing) (ts : List Ty) → Typed l ts → (c : C.Code) (A : Ty) → Coded ts c A → width A ≤ 16
+code_narrow l ts t Code.Number A h = let e = ap width h in omega arith
+code_narrow l ts t Code.Diamond A h = let e = ap width h in omega arith
+code_narrow l ts t (Code.Listed i) A h = let e = ap width h.1 in let n = t.types.narrow i h.0 in omega arith
 
-codes_narrow : (l : Listing) (ts : List Ty) → Typed l ts → (cs : List ℕ) (As : List Ty) → CodedAll ts cs As → widths As ≤ 16 * length As
-codes_narrow l ts t [] [] h = omega arith
-codes_narrow l ts t [] (A ∷ As) h = absurd h
-codes_narrow l ts t (c ∷ cs) [] h = absurd h
-codes_narrow l ts t (c ∷ cs) (A ∷ As) h =
+pub row_narrow : (l : Listing) (ts : List Ty) → Typed l ts → (cs : List C.Code) (As : List Ty) → CodedAll ts cs As → widths As ≤ 16 * length cs
+row_narrow l ts t [] [] h = omega arith
+row_narrow l ts t [] (A ∷ As) h = absurd h
+row_narrow l ts t (c ∷ cs) [] h = absurd h
+row_narrow l ts t (c ∷ cs) (A ∷ As) h =
     let p = code_narrow l ts t c A h.0 in
-    let q = codes_narrow l ts t cs As h.1 in
+    let q = row_narrow l ts t cs As h.1 in
     omega arith
 
-pub row_narrow : (l : Listing) (ts : List Ty) → Typed l ts → (r : Row) (As : List Ty) → Encodes ts r As → widths As ≤ 16 * r.count
-row_narrow l ts t r As e =
-    let p = codes_narrow l ts t _ As e.codes in
-    let q = row_length ts r As e in
-    omega arith
+-- a row of no types
+pub no_row : (ts : List Ty) (r : ArrayVec C.Code) → r.items ≡ [] → Encodes ts r []
+no_row ts r e = subst (λ (cs : List C.Code). CodedAll ts cs []) (sym e) tt
+
+-- one type more, in a row that has room
+pub row_more : (ts : List Ty) (r r' : ArrayVec C.Code) (As : List Ty) (c : C.Code) (A : Ty) → r'.items ≡ r.items ++ c ∷ [] → Encodes ts r As → Coded ts c A → Encodes ts r' (As ++ A ∷ [])
+row_more ts r r' As c A e h k = subst (λ (cs : List C.Code). CodedAll ts cs (As ++ A ∷ [])) (sym e) (coded_push ts r.items As c A h k)
 
 -- ---- an expression
 
-known_more : (ts : List Ty) (fs : List Fun) (Γ : List Ty) (v : ℕ) (a : A.About) (s : Slots) (m : ℕ) → m ≡ parts_of fs v a s → Known ts fs Γ v a s.count → Known ts fs Γ v a m
-known_more ts fs Γ v About.Nothing s m e k = tt
-known_more ts fs Γ v About.Listed s m e k = k
-known_more ts fs Γ v (About.Part i) s m e k = omega arith
-known_more ts fs Γ v About.Variable s m e k = k
-known_more ts fs Γ v About.Result s m e k = k
+known_more : (ts : List Ty) (fs : List Fun) (Γ : List Ty) (a : A.About) (s : List S.Slot) (m : ℕ) → m ≡ parts_of fs a s → Known ts fs Γ a (length s) → Known ts fs Γ a m
+known_more ts fs Γ About.Nothing s m e k = tt
+known_more ts fs Γ (About.Listed v) s m e k = k
+known_more ts fs Γ (About.Part i) s m e k = omega arith
+known_more ts fs Γ (About.Variable v) s m e k = k
+known_more ts fs Γ (About.Result v) s m e k = k
 
-few_parts : (l : Listing) (ts : List Ty) (fs : List Fun) → Basis l ts fs → (Γ : List Ty) (v : ℕ) (a : A.About) (s : Slots) → Short s → Known ts fs Γ v a s.count → parts_of fs v a s ≤ 6
-few_parts l ts fs b Γ v About.Nothing s h k = omega arith
-few_parts l ts fs b Γ v About.Listed s h k = omega arith
-few_parts l ts fs b Γ v (About.Part i) s h k = omega arith
-few_parts l ts fs b Γ v About.Variable s h k = omega arith
-few_parts l ts fs b Γ v About.Result s h k =
+few_parts : (l : Listing) (ts : List Ty) (fs : List Fun) → Basis l ts fs → (Γ : List Ty) (a : A.About) (s : List S.Slot) → Short s → Known ts fs Γ a (length s) → parts_of fs a s ≤ 6
+few_parts l ts fs b Γ About.Nothing s h k = omega arith
+few_parts l ts fs b Γ (About.Listed v) s h k = omega arith
+few_parts l ts fs b Γ (About.Part i) s h k = omega arith
+few_parts l ts fs b Γ (About.Variable v) s h k = omega arith
+few_parts l ts fs b Γ (About.Result v) s h k =
     let d : Signature = record { params = []; arity = 0; result = 0 } in
     let g = b.signed v d k in
     let n = arity_is ts _ _ g in
@@ -107,16 +108,16 @@ module _ (l : Listing) (s : Scope) (n : ℕ) (ts : List Ty) (fs : List Fun) (Γ 
       let m = length-take l.expressions l.nodes in
       (omega arith, omega arith)
 
-  module _ (r : Rule) (ag : Agrees x.kind r) where
-    says : (As : List Ty) → Says ts fs Γ x.number As (head_of ts x) r
-    says As = ag.says ts fs Γ x.number As N.range
+  module _ (r : Rule) (ag : Agrees x r) where
+    says : (As : List Ty) → Says ts fs Γ As (head_of ts x) r
+    says As = ag.says ts fs Γ As N.range
 
-    pub known_parts : Known ts fs Γ x.number r.about r.wants.count
+    pub known_parts : Known ts fs Γ r.about (length r.wants.now)
     known_parts = (says []).known
 
-    module _ (c : ℕ) (is : c ≡ parts_of fs x.number r.about r.wants) where
+    module _ (c : ℕ) (is : c ≡ parts_of fs r.about r.wants.now) where
       pub parts_few : c ≤ 6
-      parts_few = let f = few_parts l ts fs P.basis Γ x.number r.about r.wants ag.short.0 (says []).known in omega arith
+      parts_few = let f = few_parts l ts fs P.basis Γ r.about r.wants.now ag.short.0 (says []).known in omega arith
 
       pub parts_posed : PosesAll l s (replicate c (length Γ)) (n + 1) ts fs Γ ps N.parts N.middle
       parts_posed = record {
@@ -127,20 +128,20 @@ module _ (l : Listing) (s : Scope) (n : ℕ) (ts : List Ty) (fs : List Fun) (Γ 
 
       -- the parts have the types As
       module _ (As : List Ty) (many : length As ≡ counted N.parts) where
-        as_many : length As ≡ parts_of fs x.number r.about r.wants
+        as_many : length As ≡ parts_of fs r.about r.wants.now
         as_many =
             many ∙ stand_count (names_of ts fs) (listed_nodes l) N.parts_stand
             ∙ length-replicate (shape (names_of ts fs).arities (head_of ts x)).parts (length Γ) ∙ (says []).parts
 
-        pub known_subject : Known ts fs Γ x.number r.about (length As)
-        known_subject = known_more ts fs Γ x.number r.about r.wants (length As) as_many (says []).known
+        pub known_subject : Known ts fs Γ r.about (length As)
+        known_subject = known_more ts fs Γ r.about r.wants.now (length As) as_many (says []).known
 
     module _ (As : List Ty) where
       T : Ty
-      T = subject ts fs Γ x.number As r.about
+      T = subject ts fs Γ As r.about
 
       -- the test f is the rule's
-      module _ (f : Bool) (f_is : f ≡ (asked r.form (subject ts fs Γ x.number As r.about) && same_tys As (wanted fs x.number r.about r.wants (subject ts fs Γ x.number As r.about)))) where
+      module _ (f : Bool) (f_is : f ≡ (asked r.form (subject ts fs Γ As r.about) && same_tys As (wanted fs r.about r.wants.now (subject ts fs Γ As r.about)))) where
         pub fit_is : f ≡ fits (rule fs Γ (head_of ts x) As) As
         fit_is = f_is ∙ sym (says As).fit
 
@@ -157,7 +158,7 @@ module _ (l : Listing) (s : Scope) (n : ℕ) (ts : List Ty) (fs : List Fun) (Γ 
               go true h = refl
               go false h = absurd (Rattle.std.proofs.lemmas.Bool.true≢false h)
 
-          pub arms_agree : (rule fs Γ (head_of ts x) As).arms ≡ map (slot_types (subject ts fs Γ x.number As r.about)) (arms_from r 0)
+          pub arms_agree : (rule fs Γ (head_of ts x) As).arms ≡ map (slot_types (subject ts fs Γ As r.about)) (arms_from r 0)
           arms_agree = (says As).arms (λ h. (and_parts _ _ (sym f_is ∙ fit_early h)).0)
 
           pub goes_on : (not (early (head_of ts x)) || fits (rule fs Γ (head_of ts x) As) As) ≡ true
@@ -167,15 +168,15 @@ module _ (l : Listing) (s : Scope) (n : ℕ) (ts : List Ty) (fs : List Fun) (Γ 
               go true h = h refl
               go false h = refl
 
-        pub arms_posed : (c k : ℕ) → Coded ts c (subject ts fs Γ x.number As r.about) → k ≡ N.middle
-            → PosesArms l s r c 0 k ts fs Γ ps (subject ts fs Γ x.number As r.about) N.arms j
+        pub arms_posed : (c : C.Code) (k : ℕ) → Coded ts c (subject ts fs Γ As r.about) → k ≡ N.middle
+            → PosesArms l s r c 0 k ts fs Γ ps (subject ts fs Γ As r.about) N.arms j
         arms_posed c k h e = record {
           all = record {
             basis = P.basis;
             scope = P.scope;
-            stand = all_at (names_of ts fs) (listed_nodes l) (map (λ (y : Slots). length Γ + y.count) (arms_from r 0)) N.arms e
+            stand = all_at (names_of ts fs) (listed_nodes l) (map (λ (y : List S.Slot). length Γ + length y) (arms_from r 0)) N.arms e
                 (subst (λ (y : List ℕ). AllStand (names_of ts fs) (listed_nodes l) y N.middle N.arms j)
-                (ap (map (λ (b : ℕ). length Γ + b)) (says As).binds ∙ map_map (λ (b : ℕ). length Γ + b) (λ (y : Slots). y.count) (take r.arms r.binds)) N.arms_stand);
+                (ap (map (λ (b : ℕ). length Γ + b)) (says As).binds ∙ map_map (λ (b : ℕ). length Γ + b) (λ (y : List S.Slot). length y) (take r.arms (bound r))) N.arms_stand);
           };
           code = h;
           full = ag.full;
@@ -189,14 +190,15 @@ module _ (l : Listing) (s : Scope) (n : ℕ) (ts : List Ty) (fs : List Fun) (Γ 
             let p = stand_count (names_of ts fs) (listed_nodes l) N.arms_stand in
             let q = length-map (shape (names_of ts fs).arities (head_of ts x)).arms (λ (b : ℕ). length Γ + b) in
             let t = ap length (says As).binds in
-            let u = length-map (take r.arms r.binds) (λ (y : Slots). y.count) in
-            let v = length-take r.arms r.binds in
+            let u = length-map (take r.arms (bound r)) (λ (y : List S.Slot). length y) in
+            let v = length-take r.arms (bound r) in
+            let b = length-map r.binds (λ b. b.now) in
             let w = ag.full in
             let z = ag.two in
             omega arith
 
         -- the code of the whole
-        pub whole_coded : (c : ℕ) → (r.arms ≡ 0 → Coded ts c (slot_type (subject ts fs Γ x.number As r.about) r.whole)) → (1 ≤ r.arms → Coded ts c (type_at Bs 0))
+        pub whole_coded : (c : C.Code) → (r.arms ≡ 0 → Coded ts c (slot_type (subject ts fs Γ As r.about) r.whole)) → (1 ≤ r.arms → Coded ts c (type_at Bs 0))
             → Coded ts c ((rule fs Γ (head_of ts x) As).whole (type_at Bs 0))
         whole_coded c f g = go (cases_eq r.arms 0)
           where
@@ -204,58 +206,27 @@ module _ (l : Listing) (s : Scope) (n : ℕ) (ts : List Ty) (fs : List Fun) (Γ 
             go (inl h) = subst (Coded ts c) (sym ((says As).whole (type_at Bs 0) h)) (f h)
             go (inr h) = let k : 1 ≤ r.arms = omega arith in subst (Coded ts c) (sym ((says As).chosen (type_at Bs 0) k)) (g k)
 
--- an expression that passes, and is noted with its words, of whatever type it is found to have
-pub record Settled (ts : List Ty) (fs : List Fun) (Γ : List Ty) (ps : List ℕ) (over n : ℕ) (e : Expr) (j : ℕ) (notes notes' : List Note) (r : Found) : Type 0 where
-  pub passed : Passed ts fs Γ ps over n e j notes notes' r
-  pub words : NotedOver ts fs notes' e n Γ ps over passed.type
-
--- a verdict is fine with one thing only
-pub same_fine : {X : Type 0} {v : Verdict X} {x y : X} → v ≡ fine x → v ≡ fine y → x ≡ y
-same_fine p q = cc
-
-pub settled_over : {ts : List Ty} {fs : List Fun} {Γ : List Ty} {ps : List ℕ} {over n : ℕ} {e : Expr} {j : ℕ} {notes notes' : List Note} {r : Found}
-    → (X : Settled ts fs Γ ps over n e j notes notes' r) → (A : Ty) → judge fs e n Γ ≡ fine A → NotedOver ts fs notes' e n Γ ps over A
-settled_over {ts} {fs} {Γ} {ps} {over} {n} {e} {j} {notes} {notes'} X A h = subst (λ (B : Ty). NotedOver ts fs notes' e n Γ ps over B) (same_fine X.passed.typed h) X.words
-
--- several that pass pass also where another thing is to hold of their types, if it does
-pub holding : {ts before : List Ty} {v : Verdict (List Ty)} {es : Exprs} {n j : ℕ} {H K : List Ty → Type 0} {notes notes' : List Note} {r : Several}
-    → (R : PassedAll ts before v es n j H notes notes' r) → K R.types → PassedAll ts before v es n j K notes notes' r
-holding R k = record {
-  types = R.types;
-  typed = R.typed;
-  row = R.row;
-  occur = R.occur;
-  again = R.again;
-  ends = R.ends;
-  many = R.many;
-  noted = k;
-  earlier = R.earlier;
-}
-
-pub held_of_types : {ts before : List Ty} {v : Verdict (List Ty)} {es : Exprs} {n j : ℕ} {H : List Ty → Type 0} {notes notes' : List Note} {r : Several}
-    → (R : PassedAll ts before v es n j H notes notes' r) → (As : List Ty) → v ≡ fine As → H As
-held_of_types {H = H} R As h = subst H (same_fine R.typed h) R.noted
+-- where an expression that is asked for stands
+pub posed_inside : (l : Listing) (s : Scope) (n : ℕ) → Posed l s n → (n < l.expressions) × (n < 512)
+posed_inside l s n q = inside l s n q.ts q.fs q.Γ q.ps q.e q.j q.is _ (at_node l q.ts q.fs no_node q.is.stands)
 
 -- everything is settled: the note is written, and the expression passes
 pub passes : (ts : List Ty) (fs : List Fun) (Γ : List Ty) (ps : List ℕ) (over n j m : ℕ) (e : Expr) (h : Head) (es qs : Exprs) → e ≡ expr h es qs → m ≡ n + 1 + sizes es → j ≡ m + sizes qs
     → (As Bs : List Ty) (bs : List (List Ty)) (notes notes₁ notes₂ : List Note) → (rule fs Γ h As).arms ≡ bs → length notes₁ ≡ length notes₂ → n < length notes₂
-    → NotedOverAll ts fs notes₁ es (n + 1) Γ ps over As → Earlier (n + 1) notes notes₁ → ArmsNotedOver ts fs notes₂ qs m bs Γ ps over Bs → Earlier m notes₁ notes₂
+    → NotedOverAll ts fs notes₁ es (n + 1) Γ ps over As → Earlier (n + 1) notes notes₁ → ArmsNoted ts fs notes₂ qs m bs Γ ps over Bs → Earlier m notes₁ notes₂
     → fits (rule fs Γ h As) As ≡ true → alike (type_at Bs 0) Bs ≡ true → shares 0 Γ es qs ≡ false
     → judge fs e n Γ ≡ fine ((rule fs Γ h As).whole (type_at Bs 0))
-    → (c o p mp mq : ℕ) → Coded ts c ((rule fs Γ h As).whole (type_at Bs 0)) → o ≡ head_mask h → mp ≡ masks es → mq ≡ masks qs → ((i : ℕ) → h ≡ var i → p ≡ get_or ps i 0)
-    → (k : ℕ) → k ≡ j → over ≤ 49152 → Settled ts fs Γ ps over n e j notes (set notes₂ n (record { code = c; end = k; place = p; over = over })) (record { code = c; mask = bit_or o (bit_or mp mq); end = k })
+    → (c : C.Code) (o p mp mq : ℕ) → Coded ts c ((rule fs Γ h As).whole (type_at Bs 0)) → o ≡ head_mask h → mp ≡ masks es → mq ≡ masks qs → ((i : ℕ) → h ≡ var i → p ≡ get_or ps i 0)
+    → (k : ℕ) → k ≡ j → over ≤ 49152 → Passed ts fs Γ ps over n e j notes (set notes₂ n (record { code = c; end = k; place = p; over = over })) (record { code = c; mask = bit_or o (bit_or mp mq); end = k })
 passes ts fs Γ ps over n j m e h es qs is at_m at_j As Bs bs notes notes₁ notes₂ agree long inside all before arms before₂ fit same apart verdict c o p mp mq code own mps mqs place k ends low =
     record {
-      passed = record {
-        type = (rule fs Γ h As).whole (type_at Bs 0);
-        typed = verdict;
-        code = code;
-        occur = ap₂ bit_or own (ap₂ bit_or mps mqs) ∙ ap mask (sym is);
-        ends = ends;
-        noted = over_noted ts fs notes₃ e n Γ ps over ((rule fs Γ h As).whole (type_at Bs 0)) words;
-        earlier = λ i d l. other i d (omega arith) ∙ before₂ i d (omega arith) ∙ before i d (omega arith);
-      };
-      words = words;
+      type = (rule fs Γ h As).whole (type_at Bs 0);
+      typed = verdict;
+      code = code;
+      occur = ap₂ bit_or own (ap₂ bit_or mps mqs) ∙ ap mask (sym is);
+      ends = ends;
+      noted = noted;
+      earlier = λ i d l. other i d (omega arith) ∙ before₂ i d (omega arith) ∙ before i d (omega arith);
     }
   where
     note : Note
@@ -285,8 +256,8 @@ passes ts fs Γ ps over n j m e h es qs is at_m at_j As Bs bs notes notes₁ not
       few = low;
     }
 
-    words : NotedOver ts fs notes₃ e n Γ ps over ((rule fs Γ h As).whole (type_at Bs 0))
-    words =
+    noted : NotedOver ts fs notes₃ e n Γ ps over ((rule fs Γ h As).whole (type_at Bs 0))
+    noted =
         subst (λ (x : Expr). NotedOver ts fs notes₃ x n Γ ps over ((rule fs Γ h As).whole (type_at Bs 0))) (sym is) (
           As,
           type_at Bs 0,
@@ -299,6 +270,10 @@ passes ts fs Γ ps over n j m e h es qs is at_m at_j As Bs bs notes notes₁ not
               (λ i d l u. other i d (omega arith)) (arms (type_at Bs 0) same))),
         )
 
+-- the test of the types
+pub settled_is : (fit fitting same s r : Bool) → fit ≡ fitting → s ≡ (fit && same) → s ≡ r → (fitting && same) ≡ r
+settled_is fit fitting same s r p q e = ap (λ (b : Bool). b && same) (sym p) ∙ sym q ∙ e
+
 -- the test of the masks
 pub shared_test : (r s : Bool) (b : Bool) → r ≡ not b → b ≡ not s → r ≡ s
 shared_test r s b p q = p ∙ ap not q ∙ twice_not s
@@ -310,10 +285,98 @@ shared_test r s b p q = p ∙ ap not q ∙ twice_not s
 pub faulted_by : {X Y : Type 0} {v : Verdict X} {w : Verdict Y} {f : Fault} → Faulted v f → ((r : Refusal) (i : ℕ) → v ≡ faulty r i → w ≡ faulty r i) → Faulted w f
 faulted_by {f = f} F g = record { verdict = g f.refusal f.place F.verdict; part = F.part }
 
--- ---- several
+-- ---- the first of several, and the others
+
+pub record FirstPart (l : Listing) (s : Scope) (c n : ℕ) (ts : List Ty) (fs : List Fun) (Γ : List Ty) (ps : List ℕ) (es : Exprs) (j : ℕ) : Type 0 where
+  pub first : Expr
+  pub rest : Exprs
+  pub middle : ℕ
+  pub is : es ≡ first then rest
+  pub ends : middle ≡ n + size first
+  pub later : n < middle
+  pub within : middle ≤ l.expressions
+  pub posed : Poses l s n ts fs Γ ps first middle
+  pub others : (k : ℕ) → k ≡ middle → PosesAll l s (replicate (c - 1) (length Γ)) k ts fs Γ ps rest j
+
+pub first_part : (l : Listing) (s : Scope) (c n : ℕ) (ts : List Ty) (fs : List Fun) (Γ : List Ty) (ps : List ℕ) (es : Exprs) (j : ℕ)
+    → PosesAll l s (replicate c (length Γ)) n ts fs Γ ps es j → (c ≡ 0 → ⊥) → FirstPart l s c n ts fs Γ ps es j
+first_part l s c n ts fs Γ ps es j P some =
+    let F = at_first (names_of ts fs) (listed_nodes l) (length Γ) (replicate (c - 1) (length Γ)) _ (parts_first c (length Γ) some) P.stand in
+    let x = extent (names_of ts fs) (listed_nodes l) F.first_stands in
+    let t = length-take l.expressions l.nodes in
+    record {
+      first = F.first;
+      rest = F.rest;
+      middle = F.middle;
+      is = F.is;
+      ends = x.0;
+      later = x.1;
+      within = omega (arith, x.2);
+      posed = record { basis = P.basis; scope = P.scope; stands = F.first_stands };
+      others = λ k e. record { basis = P.basis; scope = P.scope; stand = all_at (names_of ts fs) (listed_nodes l) (replicate (c - 1) (length Γ)) F.rest e F.rest_stand };
+    }
+
+-- the types of the variables that the arm a binds, where the rule is about the type A
+abbrev pub arm_types : Rule → ℕ → Ty → List Ty
+arm_types r a A = slot_types A (get_or r.binds a no_slots).now
+
+pub record FirstArm (l : Listing) (s : Scope) (r : Rule) (c : C.Code) (a n : ℕ) (ts : List Ty) (fs : List Fun) (Γ : List Ty) (ps : List ℕ) (A : Ty) (es : Exprs) (j : ℕ) : Type 0 where
+  pub first : Expr
+  pub rest : Exprs
+  pub middle : ℕ
+  pub is : es ≡ first then rest
+  pub ends : middle ≡ n + size first
+  pub later : n < middle
+  pub within : middle ≤ l.expressions
+  pub short : Short (get_or r.binds a no_slots).now
+  pub few : length (arm_types r a A) ≤ 5
+  pub room : length Γ + length (arm_types r a A) ≤ 32
+  pub binds : map (slot_types A) (arms_from r a) ≡ arm_types r a A ∷ map (slot_types A) (arms_from r (a + 1))
+  pub posed : (s' : Scope) (ps' : List ℕ) → Scopes ts s' (Γ ++ arm_types r a A) ps' → Poses l s' n ts fs (Γ ++ arm_types r a A) ps' first middle
+  pub others : (k : ℕ) → k ≡ middle → PosesArms l s r c (a + 1) k ts fs Γ ps A rest j
+
+pub first_arm : (l : Listing) (s : Scope) (r : Rule) (c : C.Code) (a n : ℕ) (ts : List Ty) (fs : List Fun) (Γ : List Ty) (ps : List ℕ) (A : Ty) (es : Exprs) (j : ℕ)
+    → PosesArms l s r c a n ts fs Γ ps A es j → r.arms ≤ 2 → a < r.arms → FirstArm l s r c a n ts fs Γ ps A es j
+first_arm l s r c a n ts fs Γ ps A es j P two some =
+    let b = (get_or r.binds a no_slots).now in
+    let z = arms_first r P.full two a no_slots some in
+    let counts = map (λ (y : List S.Slot). length Γ + length y) (arms_from r (a + 1)) in
+    let F = at_first (names_of ts fs) (listed_nodes l) (length Γ + length b) counts _ (ap (map (λ (y : List S.Slot). length Γ + length y)) z) P.all.stand in
+    let x = extent (names_of ts fs) (listed_nodes l) F.first_stands in
+    let t = length-take l.expressions l.nodes in
+    let short = short_at r.binds a no_slots P.short (omega (arith, P.full, two, some)) in
+    let few : length b ≤ 5 = short in
+    let many = bound_length A b in
+    let small = stands_small (names_of ts fs) (listed_nodes l) F.first_stands in
+    record {
+      first = F.first;
+      rest = F.rest;
+      middle = F.middle;
+      is = F.is;
+      ends = x.0;
+      later = x.1;
+      within = omega (arith, x.2);
+      short = short;
+      few = omega arith;
+      room = omega arith;
+      binds = ap (map (slot_types A)) z;
+      posed = λ s' ps' I. record { basis = P.all.basis; scope = I; stands = in_scope Γ _ many F.first_stands };
+      others = λ k e. record {
+        all = record { basis = P.all.basis; scope = P.all.scope; stand = all_at (names_of ts fs) (listed_nodes l) counts F.rest e F.rest_stand };
+        code = P.code;
+        full = P.full;
+        short = P.short;
+      };
+    }
+
+-- what is said of a scope is said of its copy
+pub scope_copied : {ts Γ : List Ty} {ps : List ℕ} {s s' : Scope} → s' ≡ s → Scopes ts s Γ ps → Scopes ts s' Γ ps
+scope_copied {ts} {Γ} {ps} same h = subst (λ (x : Scope). Scopes ts x Γ ps) (sym same) h
+
+-- ---- several that pass
 
 pub no_arms_noted : (ts : List Ty) (fs : List Fun) (notes : List Note) (es : Exprs) (n : ℕ) (l : List (List Ty)) (Γ : List Ty) (ps : List ℕ) (over : ℕ) → es ≡ end → l ≡ []
-    → ArmsNotedOver ts fs notes es n l Γ ps over []
+    → ArmsNoted ts fs notes es n l Γ ps over []
 no_arms_noted ts fs notes es n l Γ ps over p q = λ B h.
     subst (λ (x : Exprs). NotedOverArms ts fs notes x n l Γ ps over B) (sym p) (subst (λ (x : List (List Ty)). NotedOverArms ts fs notes end n x Γ ps over B) (sym q) tt)
 
@@ -343,54 +406,54 @@ none_pass ts before v es n j Holding notes r is at typed holding row m t e = rec
 module _ (ts : List Ty) (fs : List Fun) (Γ : List Ty) (ps : List ℕ) (before : List Ty) (n k j over : ℕ) (e : Expr) (rest es : Exprs) (notes notes₁ notes₂ : List Note) (f : Found) (r : Several)
     (is : es ≡ e then rest) (ends : k ≡ n + size e) (long : length notes₁ ≡ length notes₂) where
   -- the first of several parts, and then the rest
-  pub parts_pass : (over' : ℕ) (P : Settled ts fs Γ ps over n e k notes notes₁ f) → over' ≡ over + width P.passed.type
-      → PassedAll ts (before ++ P.passed.type ∷ []) (exprs_verdict fs rest f.end Γ) rest f.end j (λ As. NotedOverAll ts fs notes₂ rest f.end Γ ps over' As) notes₁ notes₂ r
+  pub parts_pass : (over' : ℕ) (P : Passed ts fs Γ ps over n e k notes notes₁ f) → over' ≡ over + width P.type
+      → PassedAll ts (before ++ P.type ∷ []) (exprs_verdict fs rest f.end Γ) rest f.end j (λ As. NotedOverAll ts fs notes₂ rest f.end Γ ps over' As) notes₁ notes₂ r
       → PassedAll ts before (exprs_verdict fs es n Γ) es n j (λ As. NotedOverAll ts fs notes₂ es n Γ ps over As) notes notes₂
       (record { row = r.row; mask = bit_or f.mask r.mask; twice = bit_or (bit_and f.mask r.mask) r.twice; end = r.end })
   parts_pass over' P o R =
-      let q : f.end ≡ n + size e = P.passed.ends ∙ ends in
+      let q : f.end ≡ n + size e = P.ends ∙ ends in
       record {
-        types = P.passed.type ∷ R.types;
-        typed = all_judged fs Γ n f.end e rest es is q P.passed.type R.types P.passed.typed R.typed;
-        row = subst (Encodes ts r.row) (regroup before P.passed.type R.types) R.row;
-        occur = both_masks f.mask r.mask e rest es is P.passed.occur R.occur;
-        again = both_twice f.mask r.mask r.twice e rest es is P.passed.occur R.occur R.again;
+        types = P.type ∷ R.types;
+        typed = all_judged fs Γ n f.end e rest es is q P.type R.types P.typed R.typed;
+        row = subst (Encodes ts r.row) (regroup before P.type R.types) R.row;
+        occur = both_masks f.mask r.mask e rest es is P.occur R.occur;
+        again = both_twice f.mask r.mask r.twice e rest es is P.occur R.occur R.again;
         ends = R.ends;
         many = (let m = R.many in let z : suc (length R.types) ≡ 1 + counted rest = omega arith in z) ∙ ap counted (sym is);
-        noted = subst (λ (x : Exprs). NotedOverAll ts fs notes₂ x n Γ ps over (P.passed.type ∷ R.types)) (sym is) (
-          kept ts fs notes₁ notes₂ (omega arith) e n Γ ps over P.passed.type (λ i d l u. R.earlier i d (omega arith)) P.words,
-          subst (λ (x : ℕ). NotedOverAll ts fs notes₂ rest x Γ ps (over + width P.passed.type) R.types) q
+        noted = subst (λ (x : Exprs). NotedOverAll ts fs notes₂ x n Γ ps over (P.type ∷ R.types)) (sym is) (
+          kept ts fs notes₁ notes₂ (omega arith) e n Γ ps over P.type (λ i d l u. R.earlier i d (omega arith)) P.noted,
+          subst (λ (x : ℕ). NotedOverAll ts fs notes₂ rest x Γ ps (over + width P.type) R.types) q
               (subst (λ (x : ℕ). NotedOverAll ts fs notes₂ rest f.end Γ ps x R.types) o R.noted),
         );
-        earlier = λ i d l. R.earlier i d (omega arith) ∙ P.passed.earlier i d l;
+        earlier = λ i d l. R.earlier i d (omega arith) ∙ P.earlier i d l;
       }
 
   -- the first of several arms, which binds variables of the types b, and then the rest
   pub arms_pass : (w over' : ℕ) (b : List Ty) (bs bss : List (List Ty)) → bss ≡ b ∷ bs → over' ≡ over + widths b
-      → (P : Settled ts fs (Γ ++ b) (ps ++ offsets over b) over' n e k notes notes₁ f)
-      → PassedAll ts (before ++ P.passed.type ∷ []) (arms_verdict fs rest bs w f.end Γ) rest f.end j (ArmsNotedOver ts fs notes₂ rest f.end bs Γ ps over) notes₁ notes₂ r
-      → PassedAll ts before (arms_verdict fs es bss w n Γ) es n j (ArmsNotedOver ts fs notes₂ es n bss Γ ps over) notes notes₂
+      → (P : Passed ts fs (Γ ++ b) (ps ++ offsets over b) over' n e k notes notes₁ f)
+      → PassedAll ts (before ++ P.type ∷ []) (arms_verdict fs rest bs w f.end Γ) rest f.end j (ArmsNoted ts fs notes₂ rest f.end bs Γ ps over) notes₁ notes₂ r
+      → PassedAll ts before (arms_verdict fs es bss w n Γ) es n j (ArmsNoted ts fs notes₂ es n bss Γ ps over) notes notes₂
       (record { row = r.row; mask = bit_or f.mask r.mask; twice = bit_or (bit_and f.mask r.mask) r.twice; end = r.end })
   arms_pass w over' b bs bss binds o P R =
-      let q : f.end ≡ n + size e = P.passed.ends ∙ ends in
+      let q : f.end ≡ n + size e = P.ends ∙ ends in
       record {
-        types = P.passed.type ∷ R.types;
-        typed = arms_judged fs Γ w n f.end e rest es b bs bss is binds q P.passed.type R.types P.passed.typed R.typed;
-        row = subst (Encodes ts r.row) (regroup before P.passed.type R.types) R.row;
-        occur = both_masks f.mask r.mask e rest es is P.passed.occur R.occur;
-        again = both_twice f.mask r.mask r.twice e rest es is P.passed.occur R.occur R.again;
+        types = P.type ∷ R.types;
+        typed = arms_judged fs Γ w n f.end e rest es b bs bss is binds q P.type R.types P.typed R.typed;
+        row = subst (Encodes ts r.row) (regroup before P.type R.types) R.row;
+        occur = both_masks f.mask r.mask e rest es is P.occur R.occur;
+        again = both_twice f.mask r.mask r.twice e rest es is P.occur R.occur R.again;
         ends = R.ends;
         many = (let m = R.many in let z : suc (length R.types) ≡ 1 + counted rest = omega arith in z) ∙ ap counted (sym is);
         noted = λ B same.
-            let t = and_parts (same_ty B P.passed.type) (alike B R.types) same in
+            let t = and_parts (same_ty B P.type) (alike B R.types) same in
             subst (λ (x : Exprs). NotedOverArms ts fs notes₂ x n bss Γ ps over B) (sym is)
             (subst (λ (x : List (List Ty)). NotedOverArms ts fs notes₂ (e then rest) n x Γ ps over B) (sym binds) (
-              subst (λ (X : Ty). NotedOver ts fs notes₂ e n (Γ ++ b) (ps ++ offsets over b) (over + widths b) X) (sym (same_eq B P.passed.type t.0))
-                  (subst (λ (x : ℕ). NotedOver ts fs notes₂ e n (Γ ++ b) (ps ++ offsets over b) x P.passed.type) o
-                  (kept ts fs notes₁ notes₂ (omega arith) e n (Γ ++ b) (ps ++ offsets over b) over' P.passed.type (λ i d l u. R.earlier i d (omega arith)) P.words)),
+              subst (λ (X : Ty). NotedOver ts fs notes₂ e n (Γ ++ b) (ps ++ offsets over b) (over + widths b) X) (sym (same_eq B P.type t.0))
+                  (subst (λ (x : ℕ). NotedOver ts fs notes₂ e n (Γ ++ b) (ps ++ offsets over b) x P.type) o
+                  (kept ts fs notes₁ notes₂ (omega arith) e n (Γ ++ b) (ps ++ offsets over b) over' P.type (λ i d l u. R.earlier i d (omega arith)) P.noted)),
               subst (λ (x : ℕ). NotedOverArms ts fs notes₂ rest x bs Γ ps over B) q (R.noted B t.1),
             ));
-        earlier = λ i d l. R.earlier i d (omega arith) ∙ P.passed.earlier i d l;
+        earlier = λ i d l. R.earlier i d (omega arith) ∙ P.earlier i d l;
       }
 
 -- a body over its parameters

@@ -1,6 +1,7 @@
 -- What stands in the nodes of a listing.
-use Rattle.std.proofs.Common.{◌≡◌, ℕ, zero, suc, ◌+◌, ◌-◌, ◌<◌, ◌≤◌, List, [], ◌∷◌, ◌++◌, map, length, get_or, take, replicate, sym, refl, ap, ◌∙◌, subst, le_of_suc-le-suc, not-suc-le-zero, arith, length-append, length-take}
+use Rattle.std.proofs.Common.{Bor, ◌≡◌, ℕ, zero, suc, ◌+◌, ◌-◌, ◌<◌, ◌≤◌, List, [], ◌∷◌, ◌++◌, map, length, get_or, take, replicate, sym, refl, ap, ◌∙◌, subst, le_of_suc-le-suc, not-suc-le-zero, arith, length-append, length-take}
 use lib.ListN.{length-map}
+use Rattle.std.proofs.Math.ListN.{get_or-map}
 use Rattle.std.proofs.lemmas.List.{get_or-take, drop_more, drop_all}
 use Rattle.lfpl.specs.Reading.{Names, shape}
 use Rattle.lfpl.specs.Syntax.{Ty, Expr, Exprs, expr, end, ◌then◌, size, sizes, Fun}
@@ -10,8 +11,8 @@ use Rattle.tables.specs.declared.listing.Listing.{Listing}
 use Rattle.tables.specs.declared.listing.Node.{Node}
 use Rattle.judge.specs.Judging.{listed_nodes, arms_from, counted}
 use Rattle.typing.specs.Codes.{slot_type, slot_types}
-use Rattle.typing.specs.Rules.{names_of, Short, AllShort}
-use Rattle.typing.specs.declared.codes.Slots.{Slots}
+use Rattle.typing.specs.Rules.{names_of, Short, AllShort, bound}
+use Rattle.typing.specs.declared.codes.Slot as S
 use Rattle.typing.specs.declared.rules.Rule.{Rule}
 
 -- an expression takes as many nodes as it has expressions, and ends within the nodes
@@ -98,35 +99,32 @@ pub parts_none : (c n : ℕ) → c ≡ 0 → replicate c n ≡ []
 parts_none c n h = ap (λ (x : ℕ). replicate x n) h
 
 module _ (r : Rule) (full : length r.binds ≡ 2) (few : r.arms ≤ 2) (a : ℕ) where
-  pub arms_first : (d : Slots) → a < r.arms → arms_from r a ≡ get_or r.binds a d ∷ arms_from r (a + 1)
+  pub arms_first : (d : Bor (List S.Slot)) → a < r.arms → arms_from r a ≡ (get_or r.binds a d).now ∷ arms_from r (a + 1)
   arms_first d h =
-      let m = length-take r.arms r.binds in
-      drop_more (take r.arms r.binds) a d (omega arith) ∙ ap (λ (x : Slots). x ∷ arms_from r (a + 1)) (get_or-take r.arms r.binds a d h)
+      let n = length-map r.binds (λ b. b.now) in
+      let m = length-take r.arms (bound r) in
+      drop_more (take r.arms (bound r)) a d.now (omega arith)
+      ∙ ap (λ (x : List S.Slot). x ∷ arms_from r (a + 1)) (get_or-take r.arms (bound r) a d.now h ∙ get_or-map (λ b. b.now) r.binds a d)
 
   pub arms_none : r.arms ≤ a → arms_from r a ≡ []
-  arms_none h = let m = length-take r.arms r.binds in drop_all a (take r.arms r.binds) (omega arith)
+  arms_none h = let n = length-map r.binds (λ b. b.now) in let m = length-take r.arms (bound r) in drop_all a (take r.arms (bound r)) (omega arith)
 
 -- the same place under an equation
 pub all_at : (ns : Names) (nodes : List Node) (scopes : List ℕ) (es : Exprs) {i i' k : ℕ} → i' ≡ i → AllStand ns nodes scopes i es k → AllStand ns nodes scopes i' es k
 all_at ns nodes scopes es {i} {i'} {k} p s = subst (λ (x : ℕ). AllStand ns nodes scopes x es k) (sym p) s
 
 -- what is read outside the arms
-abbrev pub no_slots : Slots
-no_slots = record { slots = []; count = 0 }
+abbrev pub no_slots : Bor (List S.Slot)
+no_slots = record { ref_ptr = (0, 0); now = [] }
 
-pub short_at : (xs : List Slots) (a : ℕ) (d : Slots) → AllShort xs → a < length xs → Short (get_or xs a d)
+pub short_at : (xs : List (Bor (List S.Slot))) (a : ℕ) (d : Bor (List S.Slot)) → AllShort (map (λ b. b.now) xs) → a < length xs → Short (get_or xs a d).now
 short_at [] a d h l = absurd (not-suc-le-zero l)
 short_at (x ∷ xs) zero d h l = h.0
 short_at (x ∷ xs) (suc a) d h l = short_at xs a d h.1 (le_of_suc-le-suc l)
 
 -- an arm has as many variables more as its slots
-pub bound_length : (A : Ty) (s : Slots) → Short s → length (slot_types A s) ≡ s.count
-bound_length A s h =
-    let p = length-map (take s.count s.slots) (slot_type A) in
-    let q = length-take s.count s.slots in
-    let m = h.0 in
-    let n = h.1 in
-    omega arith
+pub bound_length : (A : Ty) (s : List S.Slot) → length (slot_types A s) ≡ length s
+bound_length A s = length-map s (slot_type A)
 
 pub in_scope : {ns : Names} {nodes : List Node} {m i k : ℕ} {e : Expr} (Γ b : List Ty) → length b ≡ m → Stands ns nodes (length Γ + m) i e k → Stands ns nodes (length (Γ ++ b)) i e k
 in_scope {ns} {nodes} {m} {i} {k} {e} Γ b h s =

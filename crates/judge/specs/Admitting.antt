@@ -72,18 +72,19 @@ body_verdict fs g n = judge fs g.body n g.params >>= λ A. demand (same_ty A g.r
 pub record PassedBody (ts : List Ty) (fs : List Fun) (g : Fun) (n j : ℕ) (notes notes' : List Note) (k : ℕ) : Type 0 where
   pub typed : body_verdict fs g n ≡ fine tt
   pub ends : k ≡ j
-  pub noted : NotedBody ts fs notes' g n
+  pub noted : NotedOverBody ts fs notes' g n
   pub earlier : Earlier n notes notes'
 
 abbrev pub AnswersBody : List Ty → List Fun → Fun → ℕ → ℕ → List Note → List Note → Result ℕ Fault → Type 0
 AnswersBody ts fs g n j notes notes' (Ok k) = PassedBody ts fs g n j notes notes' k
 AnswersBody ts fs g n j notes notes' (Err f) = Faulted (body_verdict fs g n) f
 
--- all bodies pass and are noted, or the first fault is answered
+-- all bodies pass and are noted with their words, or the first fault is answered
 abbrev pub AnswersBodies : Program → List Note → List ℕ → Result (Unit {0}) Fault → Type 0
-AnswersBodies p notes starts (Ok u) = (program_verdict p ≡ fine tt) × Bodies p.types p.functions notes starts
+AnswersBodies p notes starts (Ok u) =
+    (program_verdict p ≡ fine tt) × Bodies p.types p.functions notes starts × BodiesOver p.types p.functions notes
 AnswersBodies p notes starts (Err f) = Faulted (program_verdict p) f
 
 abbrev pub AnswersListing : Program → Result Table Fault → Type 0
-AnswersListing p (Ok t) = (program_verdict p ≡ fine tt) × Carries t p
+AnswersListing p (Ok t) = (program_verdict p ≡ fine tt) × Carries t p × TellsOver t p
 AnswersListing p (Err f) = Faulted (program_verdict p) f

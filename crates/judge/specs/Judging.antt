@@ -9,10 +9,11 @@ use Rattle.tables.specs.Listed.{Stands, AllStand}
 use Rattle.tables.specs.declared.listing.Listing.{Listing}
 use Rattle.tables.specs.declared.listing.Node.{Node}
 use Rattle.typing.specs.Codes.{Coded, Encodes}
-use Rattle.judge.specs.Notes.{Noted, NotedArms}
-use Rattle.typing.specs.Rules.{Basis, AllShort, names_of}
+use Rattle.judge.specs.Over.{NotedOver, NotedOverArms}
+use Rattle.typing.specs.Rules.{Basis, AllShort, bound, names_of}
 use Rattle.typing.specs.Scopes.{Scopes, mask, masks, twice}
-use Rattle.typing.specs.declared.codes.Slots.{Slots}
+use Rattle.typing.specs.declared.codes.Code as C
+use Rattle.typing.specs.declared.codes.Slot as S
 use Rattle.judge.specs.declared.judge.Found.{Found}
 use Rattle.judge.specs.declared.judge.Several.{Several}
 use Rattle.typing.specs.declared.rules.Rule.{Rule}
@@ -24,8 +25,8 @@ abbrev pub listed_nodes : Listing → List Node
 listed_nodes l = take l.expressions l.nodes
 
 -- what the arms of a rule bind, from the arm a on
-abbrev pub arms_from : Rule → ℕ → List Slots
-arms_from r a = drop a (take r.arms r.binds)
+abbrev pub arms_from : Rule → ℕ → List (List S.Slot)
+arms_from r a = drop a (take r.arms (bound r))
 
 -- ---- what is asked
 
@@ -42,11 +43,11 @@ pub record PosesAll (l : Listing) (s : Scope) (counts : List ℕ) (n : ℕ) (ts 
   pub stand : AllStand (names_of ts fs) (listed_nodes l) counts n es j
 
 -- the arms from a on of an expression with the rule r, which is about the type A with the code c
-pub record PosesArms (l : Listing) (s : Scope) (r : Rule) (c a n : ℕ) (ts : List Ty) (fs : List Fun) (Γ : List Ty) (ps : List ℕ) (A : Ty) (es : Exprs) (j : ℕ) : Type 0 where
-  pub all : PosesAll l s (map (λ (x : Slots). length Γ + x.count) (arms_from r a)) n ts fs Γ ps es j
+pub record PosesArms (l : Listing) (s : Scope) (r : Rule) (c : C.Code) (a n : ℕ) (ts : List Ty) (fs : List Fun) (Γ : List Ty) (ps : List ℕ) (A : Ty) (es : Exprs) (j : ℕ) : Type 0 where
+  pub all : PosesAll l s (map (λ (x : List S.Slot). length Γ + length x) (arms_from r a)) n ts fs Γ ps es j
   pub code : Coded ts c A
   pub full : length r.binds ≡ 2
-  pub short : AllShort r.binds
+  pub short : AllShort (bound r)
 
 -- some expression, some parts, some arms
 pub record Posed (l : Listing) (s : Scope) (n : ℕ) : Type 0 where
@@ -67,7 +68,7 @@ pub record PosedAll (l : Listing) (s : Scope) (c n : ℕ) : Type 0 where
   pub j : ℕ
   pub is : PosesAll l s (replicate c (length Γ)) n ts fs Γ ps es j
 
-pub record PosedArms (l : Listing) (s : Scope) (r : Rule) (c a n : ℕ) : Type 0 where
+pub record PosedArms (l : Listing) (s : Scope) (r : Rule) (c : C.Code) (a n : ℕ) : Type 0 where
   pub ts : List Ty
   pub fs : List Fun
   pub Γ : List Ty
@@ -95,7 +96,7 @@ pub record Passed (ts : List Ty) (fs : List Fun) (Γ : List Ty) (ps : List ℕ) 
   pub code : Coded ts r.code type
   pub occur : r.mask ≡ mask e
   pub ends : r.end ≡ j
-  pub noted : Noted ts fs notes' e n Γ ps over type
+  pub noted : NotedOver ts fs notes' e n Γ ps over type
   pub earlier : Earlier n notes notes'
 
 abbrev pub Answers : List Ty → List Fun → List Ty → List ℕ → ℕ → ℕ → Expr → ℕ → List Note → List Note → Result Found Fault → Type 0
@@ -125,4 +126,4 @@ AnswersAll ts before v es n j Holding notes notes' (Err f) = Faulted v f
 
 -- arms of the types Bs are noted, if these are all one type
 abbrev pub ArmsNoted : List Ty → List Fun → List Note → Exprs → ℕ → List (List Ty) → List Ty → List ℕ → ℕ → List Ty → Type 0
-ArmsNoted ts fs notes es n l Γ ps over Bs = (B : Ty) → alike B Bs ≡ true → NotedArms ts fs notes es n l Γ ps over B
+ArmsNoted ts fs notes es n l Γ ps over Bs = (B : Ty) → alike B Bs ≡ true → NotedOverArms ts fs notes es n l Γ ps over B

@@ -2,12 +2,13 @@ ghost use Rattle.std.specs.Prelude.{◌≡◌, ◌%◌, slice_index, slice_index
 ghost use Rattle.judge.specs.Notes.{note_at};
 
 use tables::listing::Listing;
+use typing::codes::Code;
 
 // What the judge notes at an expression for the machine that is to run it: the code of its type, the number of the expression after it, for a variable the place
 // where its words begin above those of its body's first parameter, and how many words of its body the expression stands over.
-#[derive(Clone, Copy)]
+#[derive(Clone, Copy, Default)]
 pub struct Note {
-    pub code: u8,
+    pub code: Code,
     pub end: usize,
     pub place: usize,
     pub over: usize,

@@ -5,17 +5,13 @@
 ghost use Rattle.lfpl.specs.Laws.{JudgementIsHofmanns, ProgramsAreHofmanns, ShapesAreTheRules, SumOfOne};
 
 // The judgement and Hofmann's typing rules agree.
-pub fn judgement_is_hofmanns() -> u8
+pub fn judgement_is_hofmanns()
     ensures bodies { JudgementIsHofmanns }
     ensures programs { ProgramsAreHofmanns }
     ensures example { SumOfOne }
-{
-    0
-}
+{}
 
 // How an expression is read agrees with how it is judged.
-pub fn shapes_are_the_rules() -> u8
+pub fn shapes_are_the_rules()
     ensures { ShapesAreTheRules }
-{
-    0
-}
+{}

@@ -46,6 +46,14 @@ back_depth fs code m ws recs k K [] top up T R s = absurd s
 back_depth fs code m ws recs k K (ps ∷ pss) top up T R s =
     omega (arith, s.1.fixed.short, stack_depth fs code m ws recs K pss (get_or recs (length K) nobody).dest k.level.height s.0 R s.4)
 
+-- the machine about something else
+abbrev pub with_mode : Machine → Mode → Machine
+with_mode x d = record { mode = d; depth = x.depth; count = x.count; loaded = x.loaded; words = x.words; waiting = x.waiting; cells = x.cells }
+
+-- the machine with its innermost waiting expression taken away
+abbrev pub popped : Machine → Machine
+popped x = record { mode = x.mode; depth = x.depth - 1; count = x.count; loaded = x.loaded; words = x.words; waiting = x.waiting; cells = x.cells }
+
 module _ (p : Program) (R : Ty) (code : Code) (m : Meaning) (x : Machine) (s : State) (g : Enacts p R code m x s) where
   -- ---- an expression is to begin
 
@@ -236,9 +244,9 @@ begins_with code m x number base dest up node place coming e en ep ec h w = reco
 
 -- an expression goes on with a value that has come back
 pub returns_to : (code : Code) (m : Meaning) (x : Machine) (r : Waiting) → x.mode ≡ Return → 0 < x.depth → (x.depth ≤ 4096 → r ≡ get_or x.waiting (x.depth - 1) nobody)
-    → Leads code m x (record { mode = x.mode; depth = x.depth - 1; count = x.count; loaded = x.loaded; words = x.words; waiting = x.waiting; cells = x.cells }) r
+    → Leads code m x (popped x) r
 returns_to code m x r e h top = record {
-  ready = λ p R s g. back_readied p R code m x s g e (record { mode = x.mode; depth = x.depth - 1; count = x.count; loaded = x.loaded; words = x.words; waiting = x.waiting; cells = x.cells }) r h top refl refl refl refl refl;
+  ready = λ p R s g. back_readied p R code m x s g e (popped x) r h top refl refl refl refl refl;
   same = refl;
   level = subst (λ d. x.depth - 1 + 1 < turns_left d x.depth) (sym e) (omega arith);
 }

@@ -29,6 +29,13 @@ after_zero (s, k) = rw zero-add refl
 after_after : (a b : ℕ) (r : State × ℕ) → after a (after b r) ≡ after (a + b) r
 after_after a b (s, k) = rw add_assoc refl
 
+-- no other mode goes on
+pub only_begins : (d : Mode) → goes d ≡ true → ((i b e u : ℕ) → d ≡ Begin i b e u → ⊥) → ⊥
+only_begins (Begin i b e u) q other = other i b e u refl
+only_begins Return q other = false≢true q
+only_begins Done q other = false≢true q
+only_begins (Halted y) q other = false≢true q
+
 module _ (p : Program) (R : Ty) (code : Code) (m : Meaning) (x : Machine) (s : State) (n : ℕ) where
   pub midway_none : Enacts p R code m x s → (Returning x.mode → ⊥) → Midway p R code m x s n 0 m x
   midway_none f q = record {

@@ -1,13 +1,14 @@
 -- Cells by counting: those that are kept and those that are given back.
-use Rattle.std.proofs.Common.{◌≡◌, ℕ, zero, suc, ◌+◌, ◌<◌, ◌≤◌, min, Bool, true, false, cond, eqb, ltb, ◌≢◌, List, [], ◌∷◌, ◌++◌, length, get_or, take, sym, refl, ap, ◌∙◌, subst, ⊎_elim, arith, length-append, eq-eqb}
+use Rattle.std.proofs.Common.{◌≡◌, ℕ, zero, suc, ◌+◌, ◌<◌, ◌≤◌, Bool, true, false, cond, eqb, ltb, List, [], ◌∷◌, ◌++◌, length, get_or, take, sym, refl, ap, ◌∙◌, subst, zero-add, arith, length-append}
 use Rattle.std.proofs.lemmas.List.{take_more, take_all}
-use Rattle.std.proofs.lemmas.Bool.{cases_lt, eqb-true, ltb-true, ltb-false, lt-ltb, le-ltb}
-use Rattle.pool.specs.Pools.{Meaning, Gives}
+use Rattle.std.proofs.lemmas.Bool.{eqb-true, ltb-true, ltb-false, lt-ltb}
+use Rattle.pool.specs.Pools.{Meaning}
 use Rattle.store.specs.Layout.{one, used, occ}
 use Rattle.store.specs.Releasing.{Released}
-use Rattle.store.proofs.Gives.{given_none, given_more}
 use Rattle.store.proofs.Moves.{occ_append, occ_here, used_le, used_same}
 use Rattle.machine.specs.Calling.{without}
+use Rattle.std.specs.List.{list_any}
+use mathlib.Core.Bool.{◌||◌}
 
 -- ---- counts
 
@@ -77,23 +78,15 @@ without_append ks (x ∷ xs) ys = go (ltb 0 (occ x ks)) (without_append ks xs ys
     go true e = e
     go false e = ap (λ l. x ∷ l) e
 
-without_take : (c : ℕ) (ks xs : List ℕ) (i n : ℕ) → i ≤ n → occ c (without ks (take i xs)) ≤ occ c (without ks (take n xs))
-without_take c ks xs zero n h = omega arith
-without_take c ks [] (suc i) n h = omega arith
-without_take c ks (x ∷ xs) (suc i) zero h = absurd (omega arith)
-without_take c ks (x ∷ xs) (suc i) (suc n) h = go (ltb 0 (occ x ks)) (without_take c ks xs i n (omega arith))
+without_take : (c : ℕ) (ks xs : List ℕ) (i : ℕ) → occ c (without ks (take i xs)) ≤ occ c (without ks xs)
+without_take c ks xs zero = omega arith
+without_take c ks [] (suc i) = omega arith
+without_take c ks (x ∷ xs) (suc i) = go (ltb 0 (occ x ks)) (without_take c ks xs i)
   where
-    go : (b : Bool) → occ c (without ks (take i xs)) ≤ occ c (without ks (take n xs))
-        → occ c (cond b (without ks (take i xs)) (x ∷ without ks (take i xs))) ≤ occ c (cond b (without ks (take n xs)) (x ∷ without ks (take n xs)))
+    go : (b : Bool) → occ c (without ks (take i xs)) ≤ occ c (without ks xs)
+        → occ c (cond b (without ks (take i xs)) (x ∷ without ks (take i xs))) ≤ occ c (cond b (without ks xs) (x ∷ without ks xs))
     go true e = e
     go false e = omega (arith, e)
-
-released_one : (m m' : Meaning) (c : ℕ) (r : Bool) → used m c ≡ 1 → Gives m c r m' → Released m (c ∷ []) m'
-released_one m m' c r u v = given_more m m m' (c ∷ []) 1 0 r (omega arith) (given_none m (c ∷ []) 1) v (λ k. here k (eqb c k) refl)
-  where
-    here : (k : ℕ) (b : Bool) → eqb c k ≡ b → one b + 0 ≤ used m k
-    here k true e = omega (arith, ap (used m) (eqb-true c k e), u)
-    here k false e = omega arith
 
 released_joins : (m m₁ m₂ : Meaning) (xs ys : List ℕ) → Released m xs m₁ → Released m₁ ys m₂ → Released m (xs ++ ys) m₂
 released_joins m m₁ m₂ xs ys p q = record {
@@ -103,67 +96,44 @@ released_joins m m₁ m₂ xs ys p q = record {
   bound = q.bound ∙ p.bound;
 }
 
--- a cell that is kept is not given back
-pub released_unless : (m m' : Meaning) (c : ℕ) (r kept : Bool) → kept ≡ false → (kept ≡ false → used m c ≡ 1) → Gives m c r m' → Released m (cond kept [] (c ∷ [])) m'
-released_unless m m' c r true e u v = absurd (omega (arith, ap one e))
-released_unless m m' c r false e u v = released_one m m' c r (u refl) v
+-- of the first i cells of a list, those that are not kept are given back, where all of them that are not kept can be
+abbrev pub Giving : Meaning → List ℕ → List ℕ → ℕ → Meaning → Type 0
+Giving m ks xs i m' = ((c : ℕ) → occ c (without ks xs) ≤ used m c) → Released m (without ks (take i xs)) m'
 
--- of the first so many cells of a list, those that are not kept are given back so far
-abbrev pub Giving : Meaning → List ℕ → List ℕ → ℕ → ℕ → Meaning → Type 0
-Giving m ks xs count i m' = ((c : ℕ) → occ c (without ks (take count xs)) ≤ used m c) → Released m (without ks (take i xs)) m'
+-- the library's test for a cell in a list counts it
+among : (c : ℕ) (xs : List ℕ) → list_any (λ y. eqb y c) xs ≡ ltb 0 (occ c xs)
+among c [] = refl
+among c (x ∷ xs) = go (eqb x c) (among c xs)
+  where
+    go : (b : Bool) → list_any (λ y. eqb y c) xs ≡ ltb 0 (occ c xs) → (b || list_any (λ y. eqb y c) xs) ≡ ltb 0 (one b + occ c xs)
+    go true e = sym (lt-ltb 0 (1 + occ c xs) (omega arith))
+    go false e = rw zero-add e
 
-pub giving_more : (m m₁ m₂ : Meaning) (ks xs : List ℕ) (count i x : ℕ) (b : Bool) → i < min count (length xs) → x ≡ get_or xs i 0 → b ≡ ltb 0 (occ x ks) → Giving m ks xs count i m₁
-    → ((b ≡ false → used m₁ x ≡ 1) → Released m₁ (cond b [] (x ∷ [])) m₂) → Giving m ks xs count (i + 1) m₂
-giving_more m m₁ m₂ ks xs count i x b l k e p v h =
-    let t : take (i + 1) xs ≡ take i xs ++ (x ∷ []) = take_more xs i 0 (omega arith) ∙ ap (λ y. take i xs ++ (y ∷ [])) (sym k) in
+pub giving_more : (m m₁ m₂ : Meaning) (ks xs : List ℕ) (i x : ℕ) (b : Bool) → i < length xs → x ≡ get_or xs i 0 → b ≡ list_any (λ y. eqb y x) ks → Giving m ks xs i m₁
+    → ((b ≡ false → used m₁ x ≡ 1) → Released m₁ (cond b [] (x ∷ [])) m₂) → Giving m ks xs (i + 1) m₂
+giving_more m m₁ m₂ ks xs i x b l k e p v h =
+    let f : b ≡ ltb 0 (occ x ks) = e ∙ among x ks in
+    let t : take (i + 1) xs ≡ take i xs ++ (x ∷ []) = take_more xs i 0 l ∙ ap (λ y. take i xs ++ (y ∷ [])) (sym k) in
     let w : without ks (take (i + 1) xs) ≡ without ks (take i xs) ++ cond b [] (x ∷ []) =
-    ap (without ks) t ∙ without_append ks (take i xs) (x ∷ []) ∙ ap (λ d. without ks (take i xs) ++ cond d [] (x ∷ [])) (sym e) in
+    ap (without ks) t ∙ without_append ks (take i xs) (x ∷ []) ∙ ap (λ d. without ks (take i xs) ++ cond d [] (x ∷ [])) (sym f) in
     let q = p h in
-    let u : b ≡ false → used m₁ x ≡ 1 = λ f.
+    let u : b ≡ false → used m₁ x ≡ 1 = λ o.
     omega (
       arith,
       q.cells x,
       h x,
-      without_take x ks xs (i + 1) count (omega arith),
+      without_take x ks xs (i + 1),
       ap (occ x) w,
       occ_append x (without ks (take i xs)) (cond b [] (x ∷ [])),
-      ap (λ d. occ x (cond d [] (x ∷ []))) f,
+      ap (λ d. occ x (cond d [] (x ∷ []))) o,
       occ_here x [],
       used_le m₁ x,
       used_le m x,
     ) in
     subst (λ z. Released m z m₂) (sym w) (released_joins m m₁ m₂ (without ks (take i xs)) (cond b [] (x ∷ [])) q (v u))
 
-take_min : (n k : ℕ) (xs : List ℕ) → k ≡ min n (length xs) → take k xs ≡ take n xs
-take_min n k xs e = ⊎_elim
-    (λ l. let z : k ≡ n = omega arith in ap (λ i. take i xs) z)
-    (λ l. take_all k xs (omega arith) ∙ sym (take_all n xs l))
-    (cases_lt n (length xs))
-
-pub giving_all : (m m' : Meaning) (ks xs : List ℕ) (count i : ℕ) → i ≡ min count (length xs) → Giving m ks xs count i m'
-    → ((c : ℕ) → occ c (without ks (take count xs)) ≤ used m c) → Released m (without ks (take count xs)) m'
-giving_all m m' ks xs count i e p h = subst (λ z. Released m (without ks z) m') (take_min count i xs e) (p h)
-
--- ---- whether a cell is among those of a list
-
-pub found_here : (xs : List ℕ) (n k c : ℕ) → k < min n (length xs) → get_or xs k 0 ≡ c → true ≡ ltb 0 (occ c (take n xs))
-found_here xs n k c l e = sym (lt-ltb 0 (occ c (take n xs)) (here xs n k (omega arith) (omega arith) e))
-  where
-    here : (xs : List ℕ) (n k : ℕ) → k < n → k < length xs → get_or xs k 0 ≡ c → 0 < occ c (take n xs)
-    here [] n k l l' e = absurd (omega arith)
-    here (x ∷ xs) zero k l l' e = absurd (omega arith)
-    here (x ∷ xs) (suc n) zero l l' e = omega (arith, ap one (eq-eqb x c e))
-    here (x ∷ xs) (suc n) (suc k) l l' e = omega (arith, here xs n k (omega arith) (omega arith) e)
-
-pub found_none : (xs : List ℕ) (n k c : ℕ) → k ≡ min n (length xs) → occ c (take k xs) ≡ 0 → false ≡ ltb 0 (occ c (take n xs))
-found_none xs n k c e z = sym (le-ltb 0 (occ c (take n xs)) (omega (arith, z, ap (occ c) (take_min n k xs e))))
-
-pub none_more : (xs : List ℕ) (k c : ℕ) → k < length xs → get_or xs k 0 ≢ c → occ c (take k xs) ≡ 0 → occ c (take (k + 1) xs) ≡ 0
-none_more xs k c l ne z = go (eqb (get_or xs k 0) c) refl
-  where
-    go : (b : Bool) → eqb (get_or xs k 0) c ≡ b → occ c (take (k + 1) xs) ≡ 0
-    go true e = absurd (ne (eqb-true (get_or xs k 0) c e))
-    go false e = omega (arith, ap (occ c) (take_more xs k 0 l), occ_append c (take k xs) (get_or xs k 0 ∷ []), ap one e)
+pub giving_all : (m m' : Meaning) (ks xs : List ℕ) (i : ℕ) → length xs ≤ i → Giving m ks xs i m' → ((c : ℕ) → occ c (without ks xs) ≤ used m c) → Released m (without ks xs) m'
+giving_all m m' ks xs i e p h = subst (λ z. Released m (without ks z) m') (take_all i xs e) (p h)
 
 -- where as many stay as there are, none is given back
 pub none_left : (m : Meaning) (ks mine : List ℕ) → ((c : ℕ) → occ c ks ≤ occ c mine) → ((c : ℕ) → occ c mine ≤ 1) → length mine ≤ length ks → Released m (without ks mine) m

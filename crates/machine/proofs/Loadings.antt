@@ -1,6 +1,6 @@
--- How words are put and read one after another, and how an argument is loaded.
-use Rattle.std.proofs.Common.{◌≡◌, ℕ, ◌+◌, ◌<◌, ◌≤◌, List, [], ◌∷◌, ◌++◌, length, get_or, take, drop, set, sym, refl, ap, ◌∙◌, subst, append-nil, zero-add, arith, length-append, length-set, below_more}
-use Rattle.std.proofs.lemmas.List.{get_or-set_same, get_or-set_other, take_at, get_or_default}
+-- How an argument is loaded.
+use Rattle.std.proofs.Common.{◌≡◌, ℕ, ◌+◌, ◌<◌, ◌≤◌, List, [], ◌∷◌, ◌++◌, length, get_or, take, drop, sym, refl, ap, ◌∙◌, subst, append-nil, zero-add, arith, length-append}
+use Rattle.std.proofs.lemmas.List.{take_at, get_or_default}
 use lib.Seq.{sets, sets-eq, length-sets}
 use Rattle.lfpl.specs.Syntax.{Ty, width}
 use Rattle.lfpl.specs.Typing.{type_at}
@@ -14,48 +14,12 @@ use Rattle.store.proofs.Refers.{width_is}
 use Rattle.store.proofs.Uniques.{holds_charge}
 use Rattle.tables.specs.Listed.{Types, no_entry}
 use Rattle.tables.specs.declared.listing.Entry.{Entry}
-use Rattle.acts.specs.Places.{Lying, Lies, cells_of, cells_at, places, all, Above}
+use Rattle.acts.specs.Places.{Lying, Lies, cells_of, cells_at, places, all}
 use Rattle.acts.proofs.Lying.{window_of, lies_same, lies_higher, lies_append, cells_append, widths_append, places_append, length_places}
 use Rattle.machine.specs.Calling.{Put}
 use Rattle.machine.specs.Enacting.{own}
 use Rattle.machine.specs.Running.{Loading}
 use Rattle.machine.specs.declared.Machine.{Machine}
-
--- the first k of the words ws are put
-pub record Putting (xs : List ℕ) (at : ℕ) (ws ys : List ℕ) (k : ℕ) : Type 0 where
-  pub above : Above xs ys at
-  pub stand : (j : ℕ) → j < k → get_or ys (at + j) 0 ≡ get_or ws j 0
-
-pub putting_none : (xs : List ℕ) (at : ℕ) (ws : List ℕ) → Putting xs at ws xs 0
-putting_none xs at ws = record { above = record { below = λ i h. refl; long = refl }; stand = λ j h. absurd (omega arith) }
-
-pub putting_more : (xs : List ℕ) (at : ℕ) (ws ys : List ℕ) (k : ℕ) → at + k < length xs → Putting xs at ws ys k → Putting xs at ws (set ys (at + k) (get_or ws k 0)) (k + 1)
-putting_more xs at ws ys k l p = record {
-  above = record {
-    below = λ i h. get_or-set_other ys (at + k) i (get_or ws k 0) 0 (λ q. omega arith) ∙ p.above.below i h;
-    long = length-set ys (at + k) (get_or ws k 0) ∙ p.above.long;
-  };
-  stand = below_more (λ j. get_or (set ys (at + k) (get_or ws k 0)) (at + j) 0 ≡ get_or ws j 0) k
-      (λ j h. get_or-set_other ys (at + k) (at + j) (get_or ws k 0) 0 (λ q. omega arith) ∙ p.stand j h)
-      (get_or-set_same ys (at + k) (get_or ws k 0) 0 (omega (arith, l, p.above.long)));
-}
-
-pub put_all : (xs : List ℕ) (at : ℕ) (ws ys : List ℕ) (k : ℕ) → 16 ≤ k → Putting xs at ws ys k → Put xs at ws ys
-put_all xs at ws ys k h p = record { above = p.above; stand = λ l j q. rw (zero-add j) (p.stand j (omega arith)) }
-
--- the first k words are read
-abbrev pub Fronted : List ℕ → List ℕ → ℕ → Type 0
-Fronted xs ys k = (length ys ≡ 16) × ((j : ℕ) → j < k → get_or ys j 0 ≡ get_or xs j 0)
-
-pub fronted_more : (xs ys : List ℕ) (k : ℕ) → k < 16 → Fronted xs ys k → Fronted xs (set ys k (get_or xs k 0)) (k + 1)
-fronted_more xs ys k l p = (
-  length-set ys k (get_or xs k 0) ∙ p.0,
-  below_more (λ j. get_or (set ys k (get_or xs k 0)) j 0 ≡ get_or xs j 0) k
-      (λ j h. get_or-set_other ys k j (get_or xs k 0) 0 (λ q. omega arith) ∙ p.1 j h)
-      (get_or-set_same ys k (get_or xs k 0) 0 (omega (arith, l, p.0))),
-)
-
--- ---- an argument
 
 -- what is placed after the first n of a list
 placed_after : (xs out out' : List ℕ) (n r : ℕ) → n + length xs ≤ length out → out' ≡ sets out n xs → r ≡ n + length xs → length (take n out) ≡ n → take r out' ≡ take n out ++ xs

@@ -1,4 +1,4 @@
-ghost use Rattle.std.specs.Prelude.{◌≡◌, ℕ, ◌<◌, ◌≤◌, false, [], ◌∷◌, length, take, if◌then◌else◌, nat_lt, slice_index};
+ghost use Rattle.std.specs.Prelude.{◌≡◌, ℕ, ◌<◌, ◌≤◌, false, [], ◌∷◌, length, take, if◌then◌else◌, slice_index};
 ghost use Rattle.pool.specs.Pools.{Meaning};
 ghost use Rattle.store.specs.Layout.{occ, used};
 ghost use Rattle.store.specs.Releasing.{Released};
@@ -16,35 +16,12 @@ use tables::listing::Entry;
 // A value has at most sixteen words.
 const WIDTH: usize = 16;
 
-// what stands where nothing waits
-const NOBODY: Waiting = Waiting {
-    number: 0,
-    coming: 0,
-    base: 0,
-    dest: 0,
-    height: 0,
-};
-
-// How many expressions can wait: a proof learns the length of an array of records where it is lent.
-fn room(waiting: &[Waiting]) -> usize
-    ensures { result ≡ length waiting.now }
-{
-    waiting.len()
-}
-
 // Sets words from a place on to a value's, where there is room.
-fn put_words(into: &mut [u32], at: usize, words: &[u32; 16])
+fn put_words(into: &mut [u32; WORDS], at: usize, words: &[u32; 16])
     ensures { Put into.old at words.now into.new }
 {
-    let len = into.len();
-    if len < WIDTH {
-        return;
-    }
-    if at > len - WIDTH {
-        return;
-    }
-    for k in 0..WIDTH {
-        into[at + k] = words[k];
+    if at <= WORDS - WIDTH {
+        into[at..at + WIDTH].copy_from_slice(words);
     }
 }
 
@@ -52,23 +29,9 @@ fn put_words(into: &mut [u32], at: usize, words: &[u32; 16])
 fn front(words: &[u32; WORDS]) -> [u32; 16]
     ensures { (k : ℕ) → k < 16 → slice_index result k ≡ slice_index words.now k }
 {
-    let mut first = [0; 16];
-    for k in 0..WIDTH {
-        first[k] = words[k];
-    }
+    let mut first = [0; WIDTH];
+    first.copy_from_slice(&words[..WIDTH]);
     first
-}
-
-// Whether a cell is among the first `n` of an array.
-fn holds(cells: &[u32], n: usize, cell: u32) -> bool
-    ensures { result ≡ nat_lt 0 (occ cell (take n cells.now)) }
-{
-    for k in 0..n.min(cells.len()) {
-        if cells[k] == cell {
-            return true;
-        }
-    }
-    false
 }
 
 // Gives a cell back, unless it is kept.
@@ -80,25 +43,30 @@ fn give_unless<P: Pool>(pool: &mut P, cell: u32, kept: bool)
     }
 }
 
-// Gives those of the first `count` cells back that are not among the first `n` staying.
-fn give_others<P: Pool>(pool: &mut P, cells: &[u32], count: usize, staying: &[u32], n: usize)
-    ensures { ((c : ℕ) → occ c (without (take n staying.now) (take count cells.now)) ≤ used (P.Pool.means pool.old) c) → Released (P.Pool.means pool.old) (without (take n staying.now) (take count cells.now)) (P.Pool.means pool.new) }
+// Gives those of the cells back that are not among the staying.
+fn give_others<P: Pool>(pool: &mut P, cells: &[u32], staying: &[u32])
+    ensures { ((c : ℕ) → occ c (without staying.now cells.now) ≤ used (P.Pool.means pool.old) c) → Released (P.Pool.means pool.old) (without staying.now cells.now) (P.Pool.means pool.new) }
 {
-    for i in 0..count.min(cells.len()) {
-        let cell = cells[i];
-        let stays = holds(staying, n, cell);
-        give_unless(pool, cell, stays);
+    for cell in cells {
+        let stays = staying.contains(cell);
+        give_unless(pool, *cell, stays);
     }
 }
 
-// Gives those of the first `count` cells back that are not among the first `n` staying, which are among them: none where as many stay, which is common and is told at
-// once.
-fn give_rest<P: Pool>(pool: &mut P, cells: &[u32], count: usize, staying: &[u32], n: usize)
-    ensures { n ≤ length staying.now → Owned (take count cells.now) (take n staying.now) → ((c : ℕ) → occ c (take count cells.now) ≤ 1) → ((c : ℕ) → occ c (without (take n staying.now) (take count cells.now)) ≤ used (P.Pool.means pool.old) c) → Released (P.Pool.means pool.old) (without (take n staying.now) (take count cells.now)) (P.Pool.means pool.new) }
+// Gives those of the cells back that are not among the staying, which are among them: none where as many stay, which is common and is told at once.
+fn give_rest<P: Pool>(pool: &mut P, cells: &[u32], staying: &[u32])
+    ensures { Owned cells.now staying.now → ((c : ℕ) → occ c cells.now ≤ 1) → ((c : ℕ) → occ c (without staying.now cells.now) ≤ used (P.Pool.means pool.old) c) → Released (P.Pool.means pool.old) (without staying.now cells.now) (P.Pool.means pool.new) }
 {
-    if n < count {
-        give_others(pool, cells, count, staying, n);
+    if staying.len() < cells.len() {
+        give_others(pool, cells, staying);
     }
+}
+
+// The first `count` cells of an array, or all where there are not so many.
+fn listed(cells: &[u32; CELLS], count: usize) -> &[u32]
+    ensures { result.now ≡ take count cells.now }
+{
+    &cells[..count.min(CELLS)]
 }
 
 impl Machine {
@@ -112,7 +80,7 @@ impl Machine {
             count: 0,
             loaded: 0,
             words: [0; WORDS],
-            waiting: [NOBODY; WAITING],
+            waiting: [Waiting::default(); WAITING],
             cells: [0; CELLS],
         }
     }
@@ -125,7 +93,6 @@ impl Machine {
         self.depth = 0;
         self.count = 0;
         self.loaded = 0;
-        let _ = room(&self.waiting);
     }
 
     /// Loads the next argument: its words come after those loaded, and its cells are the run's.
@@ -147,7 +114,12 @@ impl Machine {
         ensures enacts { Begins code.now function self.old self.new }
         ensures same { own self.new ≡ own self.old }
     {
-        self.mode = Mode::Begin(code.start(function), 0, 0, 0);
+        self.mode = Mode::Begin {
+            number: code.start(function),
+            base: 0,
+            dest: 0,
+            height: 0,
+        };
         self.depth = 0;
     }
 
@@ -160,7 +132,7 @@ impl Machine {
         let words = front(&self.words);
         let mut kept = [0; CELLS];
         let n = collect(pool, entries, t, &words, &mut kept, 0);
-        give_rest(pool, &self.cells, self.count, &kept, n);
+        give_rest(pool, listed(&self.cells, self.count), listed(&kept, n));
         self.cells = kept;
         self.count = n;
         words

@@ -4,7 +4,7 @@ ghost use Rattle.meaning.specs.Machine.{Frame, State};
 ghost use Rattle.code.specs.Nodes.{node_at};
 ghost use Rattle.acts.specs.Effects.{Room};
 ghost use Rattle.machine.specs.Enacting.{Enacts, nobody};
-ghost use Rattle.machine.specs.Stepping.{Carried, Passed, Performed, Readied, Rest, Returning, Takes, goes, proceeds, progress_of, turned, turns_left, waiting};
+ghost use Rattle.machine.specs.Stepping.{Carried, Passed, Performed, Readied, Rest, Returning, Takes, goes, proceeds, progress_of, turned, turns_left};
 
 use crate::{Limit, Machine, Mode, Progress, Ran, WAITING, Waiting};
 use code::{Code, Next, Node};
@@ -34,72 +34,73 @@ impl Machine {
         Some(self.waiting[(self.depth - 1) % WAITING])
     }
 
-    // The next part of an expression is to begin, and it waits for it. (An expression's record goes from function to function as numbers: a record that was just
-    // written field by field is slow to read as a whole.)
-    fn pass(&mut self, code: &Code, number: u32, coming: u32, base: u32, dest: u32, height: u32)
-        ensures passed { Passed code.now self.old (waiting number coming base dest height) self.new }
+    // The next part of an expression is to begin, and it waits for it.
+    // (Speed: the record is written field by field, and `settle` makes a mode in each arm. By `..r`, and a pair of number and base, `merge` and `reverse` took 10 %
+    // longer.)
+    fn pass(&mut self, code: &Code, r: Waiting)
+        ensures passed { Passed code.now self.old r self.new }
         ensures begins { Returning self.new.mode → ⊥ }
     {
-        let part = code.node(coming);
+        let part = code.node(r.coming);
         if self.depth < WAITING {
             self.waiting[self.depth] = Waiting {
-                number,
+                number: r.number,
                 coming: part.end,
-                base,
-                dest,
-                height,
+                base: r.base,
+                dest: r.dest,
+                height: r.height,
             };
             self.depth += 1;
         }
-        let place = sum(base, part.over);
-        let height = sum(height, 1);
-        self.mode = Mode::Begin(coming, base, place, height);
+        self.mode = Mode::Begin {
+            number: r.coming,
+            base: r.base,
+            dest: sum(r.base, part.over),
+            height: sum(r.height, 1),
+        };
     }
 
     // The operation of an expression whose parts are done.
-    fn settle<P: Pool>(
-        &mut self,
-        code: &Code,
-        pool: &mut P,
-        node: Node,
-        coming: u32,
-        base: u32,
-        dest: u32,
-        height: u32,
-    )
-        ensures performed { (number : ℕ) → base + node.over ≤ 65536 → height < 65536 → Room (P.Pool.means pool.old) self.old.words base (base + node.over) dest node.op → Performed code.now node (waiting number coming base dest height) (P.Pool.means pool.old) self.old (P.Pool.means pool.new) self.new }
+    fn settle<P: Pool>(&mut self, code: &Code, pool: &mut P, node: Node, r: Waiting)
+        ensures performed { r.base + node.over ≤ 65536 → r.height < 65536 → Room (P.Pool.means pool.old) self.old.words r.base (r.base + node.over) r.dest node.op → Performed code.now node r (P.Pool.means pool.old) self.old (P.Pool.means pool.new) self.new }
         ensures level { self.new.depth ≡ self.old.depth }
     {
-        let at = sum(base, node.over);
-        let height = sum(height, 1);
-        let next = perform(node.op, pool, &mut self.words, base, at, dest);
+        let at = sum(r.base, node.over);
+        let height = sum(r.height, 1);
+        let next = perform(node.op, pool, &mut self.words, r.base, at, r.dest);
         self.mode = match next {
             Next::Value => Mode::Return,
-            Next::First => Mode::Begin(coming, base, dest, height),
-            Next::Second => Mode::Begin(code.node(coming).end, base, dest, height),
-            Next::Body(number) => Mode::Begin(number, at, dest, height),
+            Next::First => Mode::Begin {
+                number: r.coming,
+                base: r.base,
+                dest: r.dest,
+                height,
+            },
+            Next::Second => Mode::Begin {
+                number: code.node(r.coming).end,
+                base: r.base,
+                dest: r.dest,
+                height,
+            },
+            Next::Body(number) => Mode::Begin {
+                number,
+                base: at,
+                dest: r.dest,
+                height,
+            },
         };
     }
 
     // An expression goes on: its next part is to begin, or none is left and it does what it means.
-    fn proceed<P: Pool>(
-        &mut self,
-        code: &Code,
-        pool: &mut P,
-        number: u32,
-        coming: u32,
-        base: u32,
-        dest: u32,
-        height: u32,
-    )
-        ensures enacts { (p : Program) (R : Ty) (k : Frame) (K : List Frame) → Readied p R code.now (P.Pool.means pool.old) self.old (waiting number coming base dest height) k K → Enacts p R code.now (P.Pool.means pool.new) self.new (proceeds p k K) × Rest (P.Pool.means pool.old) self.old (P.Pool.means pool.new) self.new }
+    fn proceed<P: Pool>(&mut self, code: &Code, pool: &mut P, r: Waiting)
+        ensures enacts { (p : Program) (R : Ty) (k : Frame) (K : List Frame) → Readied p R code.now (P.Pool.means pool.old) self.old r k K → Enacts p R code.now (P.Pool.means pool.new) self.new (proceeds p k K) × Rest (P.Pool.means pool.old) self.old (P.Pool.means pool.new) self.new }
         ensures level { Returning self.new.mode → self.new.depth ≤ self.old.depth }
     {
-        let node = code.node(number);
-        if coming < node.arms {
-            self.pass(code, number, coming, base, dest, height);
+        let node = code.node(r.number);
+        if r.coming < node.arms {
+            self.pass(code, r);
         } else {
-            self.settle(code, pool, node, coming, base, dest, height);
+            self.settle(code, pool, node, r);
         }
     }
 
@@ -110,7 +111,15 @@ impl Machine {
         ensures falls { Returning self.new.mode → turns_left self.new.mode self.new.depth < turns_left self.old.mode self.old.depth }
     {
         let r = match (self.mode, self.top()) {
-            (Mode::Begin(number, base, dest, height), _) => {
+            (
+                Mode::Begin {
+                    number,
+                    base,
+                    dest,
+                    height,
+                },
+                _,
+            ) => {
                 let place = sum(base, code.node(number).over);
                 if height >= TOO_HIGH {
                     self.mode = Mode::Halted(Limit::Height);
@@ -120,10 +129,9 @@ impl Machine {
                     self.mode = Mode::Halted(Limit::Words);
                     return;
                 }
-                let coming = sum(number, 1);
                 Waiting {
                     number,
-                    coming,
+                    coming: sum(number, 1),
                     base,
                     dest,
                     height,
@@ -137,10 +145,9 @@ impl Machine {
                 self.mode = Mode::Done;
                 return;
             }
-            (Mode::Done, _) => return,
-            (Mode::Halted(_), _) => return,
+            (Mode::Done | Mode::Halted(_), _) => return,
         };
-        self.proceed(code, pool, r.number, r.coming, r.base, r.dest, r.height);
+        self.proceed(code, pool, r);
     }
 
     /// One step: an expression begins, and values go back until another is to begin or the run has ended.
@@ -150,34 +157,9 @@ impl Machine {
     {
         loop {
             self.turn(code, pool);
-            if !self.returns() {
+            if self.mode != Mode::Return {
                 return;
             }
-        }
-    }
-
-    // Whether a value is on its way back.
-    fn returns(&self) -> bool
-        ensures yes { result ≡ true → Returning self.now.mode }
-        ensures no { result ≡ false → Returning self.now.mode → ⊥ }
-    {
-        match self.mode {
-            Mode::Begin(_, _, _, _) => false,
-            Mode::Return => true,
-            Mode::Done => false,
-            Mode::Halted(_) => false,
-        }
-    }
-
-    // Whether an expression is to begin.
-    fn goes(&self) -> bool
-        ensures { result ≡ goes self.now.mode }
-    {
-        match self.mode {
-            Mode::Begin(_, _, _, _) => true,
-            Mode::Return => false,
-            Mode::Done => false,
-            Mode::Halted(_) => false,
         }
     }
 
@@ -185,26 +167,38 @@ impl Machine {
     pub fn progress(&self) -> Progress
         ensures { result ≡ progress_of self.now.mode }
     {
-        match self.mode {
-            Mode::Begin(_, _, _, _) => Progress::Going,
-            Mode::Return => Progress::Going,
-            Mode::Done => Progress::Done,
-            Mode::Halted(limit) => Progress::Halted(limit),
-        }
+        Progress::from(self.mode)
     }
 
     /// Takes at most `n` steps.
+    // Speed: put in line, the loop is slower by what its caller does beside it.
+    #[inline(never)]
     pub fn carry<P: Pool>(&mut self, code: &Code, pool: &mut P, n: u32) -> Ran
         ensures { (p : Program) (R : Ty) (s : State) → Enacts p R code.now (P.Pool.means pool.old) self.old s → (Returning self.old.mode → ⊥) → Carried p R code.now (P.Pool.means pool.old) self.old s n result (P.Pool.means pool.new) self.new }
     {
+        // (No plainer as a `for`: the count is part of the answer, and a loop over a range has two ends that would each make it.)
         let mut steps = 0;
-        while steps < n && self.goes() {
+        while steps < n && matches!(self.mode, Mode::Begin { .. }) {
             self.step(code, pool);
             steps += 1;
         }
         Ran {
             steps,
             progress: self.progress(),
+        }
+    }
+}
+
+impl From<Mode> for Progress {
+    ghost from_gives = { λ mode made. made ≡ progress_of mode };
+
+    fn from(mode: Mode) -> Self
+        ensures { result ≡ progress_of mode }
+    {
+        match mode {
+            Mode::Begin { .. } | Mode::Return => Progress::Going,
+            Mode::Done => Progress::Done,
+            Mode::Halted(limit) => Progress::Halted(limit),
         }
     }
 }

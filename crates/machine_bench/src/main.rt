@@ -7,7 +7,7 @@
 use machine::Machine;
 use pool::block::BlockPool;
 use routines::routine::{ROUTINES, Routine};
-use routines::run::{Job, Outcome, run_job};
+use routines::run::{Job, Outcome, Times, run_job};
 use std::{env, io};
 
 const ROUNDS: u32 = 5;
@@ -34,12 +34,12 @@ fn measure(rt: HostRuntime, machine: &mut Machine, routine: Routine, runs: u32) 
     };
     let mut least: Option<Outcome> = None;
     for _ in 0..ROUNDS {
-        let Ok(mut outcome) = run_job(&rt, &mut pool, machine, job, runs_of(routine, runs)) else {
-            return None;
-        };
+        let mut outcome = run_job(&rt, &mut pool, machine, job, runs_of(routine, runs)).ok()?;
         if let Some(before) = least {
-            outcome.carried = outcome.carried.min(before.carried);
-            outcome.whole = outcome.whole.min(before.whole);
+            outcome.times = outcome
+                .times
+                .zip(before.times)
+                .map(|(one, other)| one.least(other));
         }
         least = Some(outcome);
     }
@@ -53,19 +53,17 @@ fn main(rt: HostRuntime) -> io::Result<()> {
     }
     let mut machine = Machine::new();
     for routine in &ROUTINES {
-        let name = routine.name();
         let Some(outcome) = measure(rt, &mut machine, *routine, runs.unwrap_or(1)) else {
-            println!(rt; "{name} refused")?;
+            println!(rt; "{routine} refused")?;
             continue;
         };
         let steps = outcome.steps;
-        let sum = outcome.checksum;
+        let sum = outcome.checksum.unwrap_or(0);
         if runs.is_some() {
-            let carried = outcome.carried;
-            let whole = outcome.whole;
-            println!(rt; "{name} {steps} {carried} {whole} {sum}")?;
+            let Times { carried, whole } = outcome.times.unwrap_or_default();
+            println!(rt; "{routine} {steps} {carried} {whole} {sum}")?;
         } else {
-            println!(rt; "{name} {steps} {sum}")?;
+            println!(rt; "{routine} {steps} {sum}")?;
         }
     }
     Ok(())

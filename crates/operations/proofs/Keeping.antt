@@ -1,12 +1,14 @@
 -- Words are read from a cell and written into one, word by word.
 use Rattle.std.proofs.Common.{◌≡◌, ℕ, ◌+◌, ◌<◌, ◌≤◌, Bool, true, false, cond, ◌&&◌, ltb, ◌≢◌, List, [], length, get_or, set, is_some, Some, None, Option, unwrap_or, sym, refl, ap, ◌∙◌, zero-add, arith, length-set, below_more}
-use Rattle.std.proofs.lemmas.List.{get_or-set_same, get_or-set_other}
+use Rattle.std.proofs.Common.{rules, ◌-◌}
+use borrow.Rule.Slice.PartMut.{put_mid}
+use Rattle.std.proofs.lemmas.List.{get_or-set_same, get_or-set_other, places}
+use Rattle.std.proofs.lemmas.Slice.{overwrites}
 use Rattle.std.proofs.lemmas.Bool.{lt-ltb}
 use Rattle.acts.specs.Effects.{Kept}
 use Rattle.pool.specs.Pools.{Cell, Meaning, held, limit, Lawful, Writes, word_at}
 use Rattle.pool.proofs.Laws.{held_same, held_other, held_long, taken_low, taken_high, write_taken}
 use Rattle.store.specs.Layout.{one, used, words_of}
-use Rattle.store.proofs.Tops.{never}
 use Rattle.operations.specs.Fetching.{Fetched}
 
 -- ---- a cell is read
@@ -14,29 +16,26 @@ use Rattle.operations.specs.Fetching.{Fetched}
 word_is : (x : Cell) (k : ℕ) (b : Bool) → b ≡ true → unwrap_or (cond (is_some x && b) (Some (get_or (unwrap_or x []) k 0)) None) 0 ≡ get_or (unwrap_or x []) k 0
 word_is None k true e = refl
 word_is (Some ws) k true e = refl
-word_is x k false e = never (cc)
+word_is x k false e = cc
 
 read_word : (m : Meaning) (c k w : ℕ) (o : Option ℕ) → k < 16 → o ≡ word_at m c k → w ≡ unwrap_or o 0 → w ≡ get_or (words_of m c) k 0
 read_word m c k w o l r e = e ∙ ap (λ o. unwrap_or o 0) r ∙ word_is (held m c) k (ltb k 16) (lt-ltb k 16 l)
 
-pub fetched_none : (m : Meaning) (c : ℕ) (xs : List ℕ) (j : ℕ) → Fetched m c xs xs j 0
-fetched_none m c xs j = record { above = record { below = λ p h. refl; long = refl }; there = λ p h. absurd (omega arith) }
+-- the words ys begin with k words of the cell
+abbrev pub Filled : Meaning → ℕ → List ℕ → ℕ → Type 0
+Filled m c ys k = (q : ℕ) → q < k → get_or ys q 0 ≡ get_or (words_of m c) q 0
 
-pub fetched_more : (m : Meaning) (c : ℕ) (xs ys : List ℕ) (j k w : ℕ) (o : Option ℕ) → k < 16 → j + k < length xs → o ≡ word_at m c k → w ≡ unwrap_or o 0
-    → Fetched m c xs ys j k → Fetched m c xs (set ys (j + k) w) j (k + 1)
-fetched_more m c xs ys j k w o s l r e f =
-    let n = f.above.long in
-    record {
-      above = record {
-        below = λ p q. get_or-set_other ys (j + k) p w 0 (λ z. omega arith) ∙ f.above.below p q;
-        long = length-set ys (j + k) w ∙ n;
-      };
-      there = below_more _ _ (λ q h. get_or-set_other ys (j + k) (j + q) w 0 (λ z. omega arith) ∙ f.there q h)
-          (get_or-set_same ys (j + k) w 0 (omega arith) ∙ read_word m c k w o s r e ∙ ap (λ (x : ℕ). get_or (words_of m c) x 0) (sym (zero-add k)));
-    }
+pub filled_more : (m : Meaning) (c : ℕ) (ys : List ℕ) (k w : ℕ) (o : Option ℕ) → k < 16 → k < length ys → o ≡ word_at m c k → w ≡ unwrap_or o 0 → Filled m c ys k
+    → Filled m c (set ys k w) (k + 1)
+filled_more m c ys k w o s r a e f = below_more _ _
+    (λ q h. get_or-set_other ys k q w 0 (λ z. omega arith) ∙ f q h)
+    (get_or-set_same ys k w 0 r ∙ read_word m c k w o s a e)
 
-pub fetched : (m : Meaning) (c : ℕ) (xs ys : List ℕ) (j n k : ℕ) → n ≤ k → Fetched m c xs ys j k → Fetched m c xs ys j n
-fetched m c xs ys j n k h f = record { above = f.above; there = λ q l. f.there q (omega arith) }
+pub fetched : (m : Meaning) (c : ℕ) (xs ys : List ℕ) (into n : ℕ) → into + n ≤ length xs → length ys ≡ n → Filled m c ys n → Fetched m c xs (put_mid into (into + n - into) xs ys) into n
+fetched m c xs ys into n r l f = record {
+  above = record { below = λ p h. search (rules, places); long = search (rules, overwrites) };
+  there = λ q h. let e : get_or (put_mid into (into + n - into) xs ys) (into + q) 0 ≡ get_or ys q 0 = search (rules, places) in e ∙ f q h ∙ ap (λ (x : ℕ). get_or (words_of m c) x 0) (sym (zero-add q));
+}
 
 -- ---- a cell is written
 
@@ -57,7 +56,7 @@ used_taken None e = absurd (omega (arith, e))
 used_taken (Some ws) e = refl
 
 taken_some : (x : Cell) → is_some x ≡ true → x ≡ Some (unwrap_or x [])
-taken_some None e = never (cc)
+taken_some None e = cc
 taken_some (Some ws) e = refl
 
 pub keeping_none : (m : Meaning) (c : ℕ) (ws : List ℕ) (i : ℕ) → Lawful m → used m c ≡ 1 → Keeping m c ws i 0 m

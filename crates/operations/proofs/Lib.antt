@@ -1,2 +1,1 @@
-mod Moving
 mod Keeping

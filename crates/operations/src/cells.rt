@@ -13,8 +13,8 @@ pub fn fetch<P: Pool>(pool: &P, cell: u32, words: &mut [u32], into: usize, n: us
     ensures { n ≤ 16 → into + n ≤ length words.old → Fetched (P.Pool.means pool.now) cell words.old words.new into n }
 {
     if inside(into, n, words.len()) {
-        for k in 0..n {
-            words[into + k] = pool.read(cell, k).unwrap_or(0);
+        for (k, w) in words[into..into + n].iter_mut().enumerate() {
+            *w = pool.read(cell, k).unwrap_or(0);
         }
     }
 }
@@ -24,8 +24,8 @@ pub fn keep<P: Pool>(pool: &mut P, cell: u32, words: &[u32], at: usize, n: usize
     ensures { n ≤ 16 → at + n ≤ length words.now → used (P.Pool.means pool.old) cell ≡ 1 → Kept (P.Pool.means pool.old) cell words.now at n (P.Pool.means pool.new) }
 {
     if inside(at, n, words.len()) {
-        for k in 0..n {
-            let _ = pool.write(cell, k, words[at + k]);
+        for (k, w) in words[at..at + n].iter().enumerate() {
+            let _ = pool.write(cell, k, *w);
         }
     }
 }

@@ -1,4 +1,5 @@
-// Arms chosen by a word, and what they bind laid out in place of the value.
+// Arms chosen by a word, and what they bind laid out in place of the value. Bounds on widths and room are premises of the clauses: a type that held them would ask more
+// of whoever performs an operation.
 
 ghost use Rattle.std.specs.Prelude.{◌≡◌, ◌+◌, ◌^◌, ◌<◌, ◌≤◌, length, if◌then◌else◌, nat_eq, slice_index};
 ghost use Rattle.acts.specs.Effects.{ByWord, Copied, Opened, Spread};

@@ -30,13 +30,15 @@ pub fn perform<P: Pool>(
 ) -> Next
     ensures acts { Room (P.Pool.means pool.old) words.old base at dest op → Effect (P.Pool.means pool.old) words.old base at dest op result (P.Pool.means pool.new) words.new }
 {
+    // the places go singly, as numbers of 32 bits: a struct would hide at which of them an operation works, and sums of them fit a `usize` whatever they are; the
+    // operation is matched, since it is data that code is copied with, as no closure is
     match op {
-        Op::Variable(place, n) => {
+        Op::Variable { place, width } => {
             move_words(
                 words,
                 base as usize + place as usize,
                 dest as usize,
-                n as usize,
+                width as usize,
             );
             Next::Value
         }
@@ -55,11 +57,11 @@ pub fn perform<P: Pool>(
             Next::Value
         }
         Op::Split => Next::First,
-        Op::Tag(mark, n) => {
-            tag(words, mark, at as usize, dest, n as usize);
+        Op::Tag { mark, width } => {
+            tag(words, mark, at as usize, dest, width as usize);
             Next::Value
         }
-        Op::CaseSum(a, b) => case_sum(words, at, a, b),
+        Op::CaseSum { left, right } => case_sum(words, at, left, right),
         Op::Empty => {
             set_word(words, dest as usize, 0);
             Next::Value

@@ -1,4 +1,4 @@
-// Values made in place of an expression's parts.
+// Values made in place of an expression's parts. Bounds on widths and room are premises here too, as choices.rt tells.
 
 ghost use Rattle.std.specs.Prelude.{◌≡◌, ◌+◌, ◌≤◌, length, slice_index, slice_set};
 ghost use Rattle.acts.specs.Effects.{Forked, Kept, Tagged, applied};
@@ -10,6 +10,7 @@ use code::Infix;
 use pool::Pool;
 
 // What an infix operation makes of two words.
+#[tactic(auto, using(std::proofs::lemmas::Int::wraps))]
 fn infix(o: Infix, a: u32, b: u32) -> u32
     ensures { result ≡ applied o a b }
 {
@@ -19,8 +20,8 @@ fn infix(o: Infix, a: u32, b: u32) -> u32
         Infix::Plus => x.wrapping_add(y).cast_unsigned(),
         Infix::Minus => x.wrapping_sub(y).cast_unsigned(),
         Infix::Times => x.wrapping_mul(y).cast_unsigned(),
-        Infix::Equal => { if x == y { 1 } else { 0 } }
-        Infix::AtMost => { if x <= y { 1 } else { 0 } }
+        Infix::Equal => u32::from(x == y),
+        Infix::AtMost => u32::from(x <= y),
     }
 }
 

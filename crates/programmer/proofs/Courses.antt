@@ -1,5 +1,5 @@
 -- Lists of calls.
-use Rattle.std.proofs.Common.{◌≡◌, ℕ, ◌+◌, ◌<◌, ◌≤◌, min, ◌⊎◌, List, [], ◌∷◌, ◌++◌, length, get_or, take, drop, Some, None, Ok, Err, Option, Result, sym, refl, ap, ◌∙◌, subst, subst₂, inl, inr, arith, length-append, length-take, take_all, take-take}
+use Rattle.std.proofs.Common.{◌≡◌, ℕ, ◌+◌, ◌<◌, ◌≤◌, min, ◌⊎◌, List, [], ◌∷◌, ◌++◌, length, get_or, take, drop, Some, None, Ok, Err, Option, Result, sym, refl, ap, ◌∙◌, subst, subst₂, inl, inr, arith, length-append, length-take, take_all, take-take, MatchResult}
 use Rattle.std.proofs.lemmas.List.{take_more}
 use Rattle.std.proofs.lemmas.Bool.{cases_lt}
 use Rattle.codec.specs.declared.fault.Fault.{Fault}
@@ -12,6 +12,7 @@ use Rattle.programmer.specs.declared.Programmer.{Programmer}
 use Rattle.programmer.specs.declared.play.Answer as listed
 use Rattle.programmer.specs.declared.play.Answer.TheVariants as answer
 use Rattle.programmer.specs.declared.play.Call as code
+use Rattle.programmer.specs.declared.play.Making.{Making}
 use Rattle.programmer.specs.declared.run.Run as running
 use Rattle.programmer.proofs.Rows.{all_charge}
 
@@ -42,16 +43,16 @@ first_of : (xs ys zs : List ℕ) → take (length xs) ((xs ++ ys) ++ zs) ≡ xs
 first_of [] ys zs = refl
 first_of (x ∷ xs) ys zs = ap (λ (r : List ℕ). x ∷ r) (first_of xs ys zs)
 
--- the bytes that are shown are told by the front of the area
-pub tells_front : (a : listed.Answer) (area : List ℕ) (k : ℕ) → k ≡ min (shown_by a) (length area) → tells a area ≡ tells a (take k area)
-tells_front answer.Granted area k e = refl
-tells_front (answer.Spare n) area k e = refl
-tells_front (answer.Refused f) area k e = refl
-tells_front (answer.Shown n) area k e = ap shown (go (cases_lt n (length area)))
+-- the bytes that are shown, n of them, are told by the front of the area
+pub tells_front : (a : Result listed.Answer Fault) (area : List ℕ) (n k : ℕ) → MatchResult a (λ x. n ≡ shown_by x) (λ _. n ≡ 0) → k ≡ min n (length area) → tells a area ≡ tells a (take k area)
+tells_front (Ok answer.Granted) area n k s e = refl
+tells_front (Ok (answer.Spare m)) area n k s e = refl
+tells_front (Err f) area n k s e = refl
+tells_front (Ok (answer.Shown m)) area n k s e = ap shown (go (cases_lt m (length area)))
   where
-    go : (n < length area) ⊎ (length area ≤ n) → take n area ≡ take n (take k area)
-    go (inl h) = sym (ap (λ (m : ℕ). take n (take m area)) (omega (arith, e)) ∙ take-take n n area (omega arith))
-    go (inr h) = ap (λ (xs : List ℕ). take n xs) (sym (ap (λ (m : ℕ). take m area) (omega (arith, e)) ∙ take_all (length area) area (omega arith)))
+    go : (m < length area) ⊎ (length area ≤ m) → take m area ≡ take m (take k area)
+    go (inl h) = sym (ap (λ (x : ℕ). take m (take x area)) (omega (arith, s, e)) ∙ take-take m m area (omega arith))
+    go (inr h) = ap (λ (xs : List ℕ). take m xs) (sym (ap (λ (x : ℕ). take x area) (omega (arith, s, e)) ∙ take_all (length area) area (omega arith)))
 
 ledger_more : (room : ℕ) (cs : List code.Call) (c : code.Call) (l : Ledger) → ledger_after room (cs ++ (c ∷ [])) l ≡ (turn (asked room c) (ledger_after room cs l)).1
 ledger_more room [] c l = refl
@@ -79,35 +80,42 @@ module _ {P : Type 0} (means : P → Meaning) where
       subst (λ (xs : List code.Call). SoFar made start room xs q) (sym (take_more calls i z h)) step
 
   -- what is heard before the first call and after each
-  pub hears_first : (made : Meaning) (cells box room : ℕ) (calls : List code.Call) (bytes : List ℕ) (p : Programmer P) → made.free ≡ cells → calls ≡ []
-      → Agrees made (opened cells box) (means p.pool) (view p) → After means cells box room calls None bytes p
-  hears_first made cells box room calls bytes p e n a =
+  pub hears_first : (made : Meaning) (m : Making) (calls : List code.Call) (bytes : List ℕ) (p : Programmer P) → made.free ≡ m.cells → calls ≡ []
+      → Agrees made (opened m.cells m.box_number) (means p.pool) (view p) → After means m calls None bytes p
+  hears_first made m calls bytes p e n a =
       record {
         made = made;
         counted = e;
-        upheld = subst (λ (xs : List code.Call). Upheld made (ledger_after room xs (opened cells box)) (means p.pool) (view p)) (sym n) (upheld made (means p.pool) (opened cells box) (view p) a);
+        upheld = subst (λ (xs : List code.Call). Upheld made (ledger_after m.room xs (opened m.cells m.box_number)) (means p.pool) (view p)) (sym n)
+            (upheld made (means p.pool) (opened m.cells m.box_number) (view p) a);
         heard = n;
       }
 
-  pub hears : (made : Meaning) (cells box room : ℕ) (calls : List code.Call) (i : ℕ) (z : code.Call) (p : Programmer P) (a : listed.Answer) (bytes : List ℕ) (q : Programmer P)
-      → made.free ≡ cells → i < length calls → SoFar made (opened cells box) room (take i calls) p → Acts means (asked room (get_or calls i z)) (tells a bytes) p q
-      → After means cells box room (take (i + 1) calls) (Some a) bytes q
-  hears made cells box room calls i z p a bytes q e h d k =
+  pub hears : (made : Meaning) (m : Making) (calls : List code.Call) (i : ℕ) (z : code.Call) (p : Programmer P) (a : Result listed.Answer Fault) (bytes : List ℕ) (q : Programmer P)
+      → made.free ≡ m.cells → i < length calls → SoFar made (opened m.cells m.box_number) m.room (take i calls) p → Acts means (asked m.room (get_or calls i z)) (tells a bytes) p q
+      → After means m (take (i + 1) calls) (Some a) bytes q
+  hears made m calls i z p a bytes q e h d k =
+      let start = opened m.cells m.box_number in
       record {
         made = made;
         counted = e;
-        upheld = upheld made (means q.pool) _ (view q) (one_more made (opened cells box) room calls i z p (tells a bytes) q h d k).agrees;
-        heard = (take i calls, get_or calls i z, take_more calls i z h, sym (k.keeps made (ledger_after room (take i calls) (opened cells box)) d.agrees).told);
+        upheld = upheld made (means q.pool) _ (view q) (one_more made start m.room calls i z p (tells a bytes) q h d k).agrees;
+        heard = (take i calls, get_or calls i z, take_more calls i z h, sym (k.keeps made (ledger_after m.room (take i calls) start) d.agrees).told);
       }
 
   -- one call of a list, by its own contract
-  pub acts_plainly : (c : Call) (r : Result (Unit {0}) Fault) (a : listed.Answer) (area : List ℕ) (p q : Programmer P) → a ≡ answer_of_result r
+  pub acts_plainly : (c : Call) (r : Result (Unit {0}) Fault) (a : Result listed.Answer Fault) (area : List ℕ) (p q : Programmer P) → a ≡ answer_of_result r
       → Keeps means c (Plainly r) p q → Still means r p q → Acts means c (tells a area) p q
-  acts_plainly c r a area p q e k s = subst (λ (x : listed.Answer). Acts means c (tells x area) p q) (sym e) (go r k s)
+  acts_plainly c r a area p q e k s = subst (λ (x : Result listed.Answer Fault). Acts means c (tells x area) p q) (sym e) (go r k s)
     where
       go : (r : Result (Unit {0}) Fault) → Keeps means c (Plainly r) p q → Still means r p q → Acts means c (tells (answer_of_result r) area) p q
       go (Ok u) k s = record { keeps = λ made l h. let f = k made l h in record { told = f.told; agrees = f.agrees; pooled = f.pooled }; quiet = tt }
       go (Err f) k s = record { keeps = λ made l h. let f = k made l h in record { told = f.told; agrees = f.agrees; pooled = f.pooled }; quiet = s }
+
+  -- the same of a call of the list by another name
+  pub acts_called : (room : ℕ) (c d : code.Call) (r : Result (Unit {0}) Fault) (a : Result listed.Answer Fault) (area : List ℕ) (p q : Programmer P) → c ≡ d → a ≡ answer_of_result r
+      → Keeps means (asked room d) (Plainly r) p q → Still means r p q → Acts means (asked room c) (tells a area) p q
+  acts_called room c d r a area p q n e k s = subst (λ (x : code.Call). Acts means (asked room x) (tells a area) p q) (sym n) (acts_plainly (asked room d) r a area p q e k s)
 
   -- a value that is shown in the front of an area
   pub acts_shown : (i n r k : ℕ) (area front : List ℕ) (p : Programmer P) → k ≡ min r (length area)

@@ -1,34 +1,20 @@
 -- When a programmer agrees with a ledger, and what each call keeps of that.
-use Rattle.std.specs.Prelude.{◌≡◌, ℕ, ◌+◌, ◌<◌, ◌≤◌, min, cond, List, [], ◌∷◌, ◌++◌, length, take, drop, Some, None, Ok, Err, Option, Result, nat_le, slice_index_or}
+use Rattle.std.specs.Prelude.{◌≡◌, ℕ, ◌+◌, ◌<◌, ◌≤◌, min, cond, List, [], ◌∷◌, ◌++◌, length, drop, Some, None, Ok, Err, Option, Result, nat_le, slice_index_or}
 use Rattle.codec.specs.declared.fault.Fault.{Fault}
 use Rattle.codec.specs.declared.fault.Refusal.TheVariants.{NoSuchShelf, ShelfFilled, ShelfEmpty}
 use Rattle.lfpl.specs.Syntax.{Ty, Program}
 use Rattle.lfpl.specs.Typing.{type_at}
 use Rattle.pool.specs.Pools.{Meaning, held, limit}
-use Rattle.tables.specs.declared.listing.Entry.{Entry}
 use Rattle.judge.specs.Admitting.{Carries}
 use Rattle.judge.specs.declared.table.Table.{Table}
 use Rattle.store.specs.Layout.{Shows, footprint, used, occ}
-use Rattle.programmer.specs.Entries.{listed_entries}
+use Rattle.programmer.specs.Shelved.{table_of}
 use Rattle.programmer.specs.Ledger.{Content, nothing, value, Run, Ledger, types_of, shelf, cost_of_run, charges, Call, adopt, put, show, spare, empty, Answer, granted, shown, spares, refuses, fault, turn}
 use Rattle.programmer.specs.declared.Programmer.{Programmer}
-use Rattle.programmer.specs.declared.adopted.Adopted.{Adopted}
 use Rattle.programmer.specs.declared.run as running
-use Rattle.programmer.specs.declared.shelf.Shelf.{Shelf}
-use Rattle.programmer.specs.declared.shelf.Shelf.TheVariants.{Empty, Filled}
 use Rattle.programmer.specs.declared.shelf.Stored.{Stored}
 
 -- ---- what can be asked of a programmer
-
--- the table that it has adopted
-abbrev pub table_of : Option Adopted → Option Table
-table_of None = None
-table_of (Some a) = Some a.table
-
--- the entries of its table; none without a table
-abbrev pub entries_in : Option Table → List Entry
-entries_in None = []
-entries_in (Some t) = listed_entries t
 
 -- A programmer, its pool apart: the box number, the table, the pool's free cells at the making and how many of them are counted, the shelves and the run.
 pub record View : Type 0 where
@@ -36,11 +22,11 @@ pub record View : Type 0 where
   pub table : Option Table
   pub made : ℕ
   pub total : ℕ
-  pub shelves : List Shelf
+  pub shelves : List (Option Stored)
   pub run : Option running.Run.Run
 
 abbrev pub view : {P : Type 0} → Programmer P → View
-view p = record { box = p.box_number; table = table_of p.table; made = p.made; total = p.total; shelves = p.shelves; run = p.run }
+view p = record { box = p.box_number; table = table_of p.shelves.table; made = p.made; total = p.total; shelves = p.shelves.places; run = p.run }
 
 -- ---- agreement
 
@@ -52,27 +38,27 @@ Tabled (Some p) None = ⊥
 Tabled (Some p) (Some t) = Carries t p
 
 -- the shelf has the content: a value of a listed type, read by the layout from the shelf's words on through the pool's
-abbrev pub Stands : Meaning → List Ty → Content → Shelf → Type 0
-Stands m ts nothing Empty = Unit {0}
-Stands m ts nothing (Filled s) = ⊥
-Stands m ts (value t v) Empty = ⊥
-Stands m ts (value t v) (Filled s) = (s.type_number ≡ t) × (t < length ts) × Shows m (type_at ts t) v s.words 0
+abbrev pub Stands : Meaning → List Ty → Content → Option Stored → Type 0
+Stands m ts nothing None = Unit {0}
+Stands m ts nothing (Some s) = ⊥
+Stands m ts (value t v) None = ⊥
+Stands m ts (value t v) (Some s) = (s.type_number ≡ t) × (t < length ts) × Shows m (type_at ts t) v s.words 0
 
 -- each shelf has its content
-abbrev pub Stand : Meaning → List Ty → List Content → List Shelf → Type 0
+abbrev pub Stand : Meaning → List Ty → List Content → List (Option Stored) → Type 0
 Stand m ts [] [] = Unit {0}
 Stand m ts [] (s ∷ ss) = ⊥
 Stand m ts (x ∷ xs) [] = ⊥
 Stand m ts (x ∷ xs) (s ∷ ss) = Stands m ts x s × Stand m ts xs ss
 
 -- the cells that a shelf holds
-abbrev pub cells_on : Meaning → List Ty → Content → Shelf → List ℕ
+abbrev pub cells_on : Meaning → List Ty → Content → Option Stored → List ℕ
 cells_on m ts nothing s = []
-cells_on m ts (value t v) Empty = []
-cells_on m ts (value t v) (Filled s) = footprint m (type_at ts t) v s.words 0
+cells_on m ts (value t v) None = []
+cells_on m ts (value t v) (Some s) = footprint m (type_at ts t) v s.words 0
 
 -- the cells that the shelves hold
-abbrev pub cells_on_all : Meaning → List Ty → List Content → List Shelf → List ℕ
+abbrev pub cells_on_all : Meaning → List Ty → List Content → List (Option Stored) → List ℕ
 cells_on_all m ts [] ss = []
 cells_on_all m ts (x ∷ xs) [] = []
 cells_on_all m ts (x ∷ xs) (s ∷ ss) = cells_on m ts x s ++ cells_on_all m ts xs ss
@@ -80,7 +66,7 @@ cells_on_all m ts (x ∷ xs) (s ∷ ss) = cells_on m ts x s ++ cells_on_all m ts
 -- the cells that a run holds
 abbrev pub cells_of_run : Option running.Run.Run → List ℕ
 cells_of_run None = []
-cells_of_run (Some r) = take r.count r.cells
+cells_of_run (Some r) = r.cells.items
 
 -- a run stands where the ledger has one, and holds as many cells as it is charged for
 abbrev pub Runs : Option Run → Option running.Run.Run → Type 0
@@ -123,7 +109,7 @@ pub record Besides (m : Meaning) (xs : List ℕ) (m' : Meaning) : Type 0 where
 
 -- the cells that the shelf i holds
 abbrev pub cells_at : Meaning → Ledger → View → ℕ → List ℕ
-cells_at m l p i = cells_on m (types_of l) (shelf l i) (slice_index_or p.shelves i Empty)
+cells_at m l p i = cells_on m (types_of l) (shelf l i) (slice_index_or p.shelves i None)
 
 -- What a call does to the pool: a put that is granted takes the cells of the value then on the shelf, an empty that is granted gives back those of the value that
 -- was there, and nothing else changes.
@@ -180,23 +166,17 @@ Left (Err f) area area' = area' ≡ area
 -- ---- what the code finds
 
 -- the value on the shelf, or the refusal where there is none
-abbrev pub stored_on : Shelf → Result Stored Fault
-stored_on Empty = Err (fault ShelfEmpty 0)
-stored_on (Filled s) = Ok s
+abbrev pub stored_on : Option Stored → Result Stored Fault
+stored_on None = Err (fault ShelfEmpty 0)
+stored_on (Some s) = Ok s
 
-abbrev pub looked_at : List Shelf → ℕ → Result Stored Fault
-looked_at ss i = cond (nat_le 16 i) (Err (fault NoSuchShelf 0)) (stored_on (slice_index_or ss i Empty))
+abbrev pub looked_at : List (Option Stored) → ℕ → Result Stored Fault
+looked_at ss i = cond (nat_le 16 i) (Err (fault NoSuchShelf 0)) (stored_on (slice_index_or ss i None))
 
 -- that the shelf is free for a value, or the refusal
-abbrev pub free_on : Shelf → Result (Unit {0}) Fault
-free_on Empty = Ok tt
-free_on (Filled s) = Err (fault ShelfFilled 0)
+abbrev pub free_on : Option Stored → Result (Unit {0}) Fault
+free_on None = Ok tt
+free_on (Some s) = Err (fault ShelfFilled 0)
 
-abbrev pub vacant_at : List Shelf → ℕ → Result (Unit {0}) Fault
-vacant_at ss i = cond (nat_le 16 i) (Err (fault NoSuchShelf 0)) (free_on (slice_index_or ss i Empty))
-
--- i is how many empty shelves come before the first that is filled
-pub record Lowest (ss : List Shelf) (i : ℕ) : Type 0 where
-  pub below : (k : ℕ) → k < i → slice_index_or ss k Empty ≡ Empty
-  pub here : i < length ss → (s : Stored) × (slice_index_or ss i Empty ≡ Filled s)
-  pub most : i ≤ length ss
+abbrev pub vacant_at : List (Option Stored) → ℕ → Result (Unit {0}) Fault
+vacant_at ss i = cond (nat_le 16 i) (Err (fault NoSuchShelf 0)) (free_on (slice_index_or ss i None))

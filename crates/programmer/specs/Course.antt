@@ -10,6 +10,7 @@ use Rattle.programmer.specs.declared.play.Answer as listed
 use Rattle.programmer.specs.declared.play.Answer.TheVariants as answer
 use Rattle.programmer.specs.declared.play.Call as code
 use Rattle.programmer.specs.declared.play.Call.TheVariants as call
+use Rattle.programmer.specs.declared.play.Making.{Making}
 
 -- The theorem. What holds of a programmer that was made over a pool that meant `made`, whose pool means m now, where the calls so far have led to the ledger l.
 pub record Upheld (made : Meaning) (l : Ledger) (m : Meaning) (p : View) : Type 0 where
@@ -42,23 +43,22 @@ asked room call.Spare = spare
 asked room (call.Empty i) = empty i
 
 -- what an answer tells, where the bytes shown come first in the area
-abbrev pub tells : listed.Answer → List ℕ → Answer
-tells answer.Granted area = granted
-tells (answer.Shown n) area = shown (take n area)
-tells (answer.Spare n) area = spares n
-tells (answer.Refused f) area = refuses f
+abbrev pub tells : Result listed.Answer Fault → List ℕ → Answer
+tells (Ok answer.Granted) area = granted
+tells (Ok (answer.Shown n)) area = shown (take n area)
+tells (Ok (answer.Spare n)) area = spares n
+tells (Err f) area = refuses f
 
 -- how many bytes an answer says are shown
 abbrev pub shown_by : listed.Answer → ℕ
 shown_by answer.Granted = 0
 shown_by (answer.Shown n) = n
 shown_by (answer.Spare n) = 0
-shown_by (answer.Refused f) = 0
 
 -- what a call that is granted or refused answers in a list
-abbrev pub answer_of_result : Result (Unit {0}) Fault → listed.Answer
-answer_of_result (Ok _) = answer.Granted
-answer_of_result (Err f) = answer.Refused f
+abbrev pub answer_of_result : Result (Unit {0}) Fault → Result listed.Answer Fault
+answer_of_result (Ok _) = Ok answer.Granted
+answer_of_result (Err f) = Err f
 
 -- the ledger after a list of calls
 abbrev pub ledger_after : ℕ → List code.Call → Ledger → Ledger
@@ -87,15 +87,15 @@ module _ {P : Type 0} (means : P → Meaning) where
         → Upheld made (ledger_after room (cs ++ (c ∷ [])) start) (means q.pool) (view q) → History made start room (cs ++ (c ∷ [])) q
 
   -- The answer heard after a list of calls, with the bytes shown, is the ledger's to the last of them; before the first call there is none.
-  abbrev pub Heard : ℕ → Ledger → List code.Call → Option listed.Answer → List ℕ → Type 0
+  abbrev pub Heard : ℕ → Ledger → List code.Call → Option (Result listed.Answer Fault) → List ℕ → Type 0
   Heard room start calls None bytes = calls ≡ []
   Heard room start calls (Some a) bytes =
       (cs : List code.Call) × (c : code.Call) × (calls ≡ cs ++ (c ∷ [])) × (tells a bytes ≡ (turn (asked room c) (ledger_after room cs start)).0)
 
   -- What a listener may rely on: all is upheld by the ledger of the calls so far, for the pool as it was at the making with so many free cells, and the answer that
   -- is heard is the ledger's.
-  pub record After (cells box room : ℕ) (calls : List code.Call) (a : Option listed.Answer) (bytes : List ℕ) (p : Programmer P) : Type 0 where
+  pub record After (m : Making) (calls : List code.Call) (a : Option (Result listed.Answer Fault)) (bytes : List ℕ) (p : Programmer P) : Type 0 where
     pub made : Meaning
-    pub counted : made.free ≡ cells
-    pub upheld : Upheld made (ledger_after room calls (opened cells box)) (means p.pool) (view p)
-    pub heard : Heard room (opened cells box) calls a bytes
+    pub counted : made.free ≡ m.cells
+    pub upheld : Upheld made (ledger_after m.room calls (opened m.cells m.box_number)) (means p.pool) (view p)
+    pub heard : Heard m.room (opened m.cells m.box_number) calls a bytes

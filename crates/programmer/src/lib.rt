@@ -10,17 +10,13 @@ mod entries;
 pub mod play;
 pub mod run;
 pub mod shelf;
+pub mod shelves;
 #[cfg(test)]
 mod tests;
 
-ghost use Rattle.std.specs.Prelude.{◌≡◌, ◌-◌, ◌<◌, List, length};
-ghost use Rattle.lfpl.specs.Syntax.{Ty};
-ghost use Rattle.lfpl.specs.Typing.{type_at};
+ghost use Rattle.std.specs.Prelude.{◌≡◌, ◌-◌, length};
 ghost use Rattle.programmer.specs.Agreement.{Agrees, Keeps, Left, Plainly, Shown, Still, view};
 ghost use Rattle.programmer.specs.Ledger.{adopt as Adopt, empty as Empty, opened, put as Put, show as Show, spare as Spare, spares};
-ghost use Rattle.store.specs.Releasing.{Releases};
-ghost use Rattle.store.specs.Scanning.{Listed};
-ghost use Rattle.tables.specs.Listed.{Types};
 
 use adopted::Adopted;
 use codec::fault::{Fault, Refusal};
@@ -28,12 +24,12 @@ use entries::entries_of;
 use judge::admit::admit;
 use pool::Pool;
 use run::Run;
-use shelf::{SHELVES, Shelf, Stored, look, lowest_filled, refusal, vacant};
+use shelf::{SHELVES, Stored, look, lowest_filled, refusal, vacant};
+use shelves::Shelves;
 use store::{build, release, show};
-use tables::listing::Entry;
 
 /// No more cells of a pool are counted.
-pub const MOST_CELLS: u32 = 512;
+pub use store::scan::MOST_CELLS;
 
 /// A programmer over a pool, which it owns. A shelf is a place for one value.
 #[derive(Drop)]
@@ -41,24 +37,12 @@ pub struct Programmer<P: Pool> {
     pool: P,
     // the number that its tickets carry
     box_number: u32,
-    // the table adopted last
-    table: Option<Adopted>,
     // the pool's free cells at the making, and how many of them are counted
     made: u32,
     total: u32,
-    shelves: [Shelf; SHELVES],
+    shelves: Shelves,
     // the run that stands: none yet
     run: Option<Run>,
-}
-
-// Gives back the cells of a value of a listed type.
-fn give_back<P: Pool>(pool: &mut P, entries: &[Entry], stored: Stored)
-    requires { Listed entries.now }
-    ensures { stored.type_number < length entries.now → (ts : List Ty) → Types entries.now ts → Releases (P.Pool.means pool.old) (type_at ts stored.type_number) stored.words 0 512 (P.Pool.means pool.new) }
-{
-    if (stored.type_number as usize) < entries.len() {
-        release::release(pool, entries, stored.type_number, &stored.words);
-    }
 }
 
 impl<P: Pool> Programmer<P> {
@@ -71,10 +55,12 @@ impl<P: Pool> Programmer<P> {
         Programmer {
             pool,
             box_number,
-            table: None,
             made,
             total: made.min(MOST_CELLS),
-            shelves: [Shelf::Empty; SHELVES],
+            shelves: Shelves {
+                table: None,
+                places: [None; SHELVES],
+            },
             run: None,
         }
     }
@@ -88,12 +74,11 @@ impl<P: Pool> Programmer<P> {
         if self.run.is_some() {
             return Err(refusal(Refusal::RunStands, 0));
         }
-        let lowest = lowest_filled(&self.shelves);
-        if lowest < SHELVES {
+        if let Some(lowest) = lowest_filled(&self.shelves.places) {
             return Err(refusal(Refusal::ShelfFilledAtAdopt, lowest));
         }
         let table = admit(bytes)?;
-        self.table = Some(Adopted { table });
+        self.shelves.table = Some(Adopted { table });
         Ok(())
     }
 
@@ -103,15 +88,16 @@ impl<P: Pool> Programmer<P> {
         ensures keeps { Keeps P.Pool.means (Put shelf type_number bytes.now) (Plainly result) self.old self.new }
         ensures still { Still P.Pool.means result self.old self.new }
     {
-        vacant(&self.shelves, shelf)?;
         let spare = self.spare();
-        let entries = entries_of(&self.table);
+        let shelves = &mut self.shelves;
+        vacant(&shelves.places, shelf)?;
+        let entries = entries_of(&shelves.table);
         if type_number as usize >= entries.len() {
             return Err(refusal(Refusal::NoSuchTypeOrFunction, 0));
         }
         let type_number = type_number as u8;
         let words = build::put(&mut self.pool, entries, type_number, bytes, spare)?;
-        self.shelves[shelf as usize] = Shelf::Filled(Stored { type_number, words });
+        shelves.places[shelf as usize] = Some(Stored { type_number, words });
         Ok(())
     }
 
@@ -121,16 +107,10 @@ impl<P: Pool> Programmer<P> {
         ensures keeps { Keeps P.Pool.means (Show shelf (length area.old)) (Shown result area.old area.new) self.now self.now }
         ensures left { Left result area.old area.new }
     {
-        let stored = look(&self.shelves, shelf)?;
-        let entries = entries_of(&self.table);
-        if stored.type_number as usize >= entries.len() {
-            // never so: a value on a shelf is of a type of the table
-            return Err(refusal(Refusal::ShelfEmpty, 0));
-        }
-        match show::show(&self.pool, entries, stored.type_number, &stored.words, area) {
-            Some(count) => Ok(count),
-            None => Err(refusal(Refusal::AreaTooShort, 0)),
-        }
+        let stored = look(&self.shelves.places, shelf)?;
+        let entries = entries_of(&self.shelves.table);
+        let count = show::show(&self.pool, entries, stored.type_number, &stored.words, area);
+        count.ok_or(refusal(Refusal::AreaTooShort, 0))
     }
 
     /// The cells that are spare: those counted, less what the pool's count fell since the making.
@@ -147,10 +127,11 @@ impl<P: Pool> Programmer<P> {
         ensures keeps { Keeps P.Pool.means (Empty shelf) (Plainly result) self.old self.new }
         ensures still { Still P.Pool.means result self.old self.new }
     {
-        let stored = look(&self.shelves, shelf)?;
-        let entries = entries_of(&self.table);
-        give_back(&mut self.pool, entries, stored);
-        self.shelves[shelf as usize] = Shelf::Empty;
+        let shelves = &mut self.shelves;
+        let stored = look(&shelves.places, shelf)?;
+        let entries = entries_of(&shelves.table);
+        release::release(&mut self.pool, entries, stored.type_number, &stored.words);
+        shelves.places[shelf as usize] = None;
         Ok(())
     }
 }

@@ -1,6 +1,7 @@
-/// A run of a function: the cells that it holds are the first `count`. No call starts one yet.
-#[derive(Clone, Copy)]
+use arrayvec::ArrayVec;
+
+/// A run of a function, with the cells that it holds. No call starts one yet.
+#[derive(Drop)]
 pub struct Run {
-    pub(crate) cells: [u32; 512],
-    pub(crate) count: usize,
+    pub(crate) cells: ArrayVec<u32, 512>,
 }

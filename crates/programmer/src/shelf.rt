@@ -1,5 +1,5 @@
-ghost use Rattle.std.specs.Prelude.{◌≡◌, ◌<◌, OnOk};
-ghost use Rattle.programmer.specs.Agreement.{looked_at, vacant_at, Lowest};
+ghost use Rattle.std.specs.Prelude.{◌≡◌, ◌<◌, OnOk, is_some, position};
+ghost use Rattle.programmer.specs.Agreement.{looked_at, vacant_at};
 ghost use Rattle.programmer.specs.Ledger.{fault};
 
 use codec::fault::{Fault, Part, Refusal};
@@ -14,13 +14,6 @@ pub struct Stored {
     pub(crate) words: [u32; 16],
 }
 
-/// A shelf holds a value or none.
-#[derive(Clone, Copy)]
-pub enum Shelf {
-    Empty,
-    Filled(Stored),
-}
-
 // A refusal of the call itself.
 pub(crate) fn refusal(refusal: Refusal, place: usize) -> Fault
     ensures { result ≡ fault refusal place }
@@ -33,41 +26,34 @@ pub(crate) fn refusal(refusal: Refusal, place: usize) -> Fault
 }
 
 // The value on the shelf, or a refusal where there is no such shelf or it is empty.
-pub(crate) fn look(shelves: &[Shelf; SHELVES], shelf: u32) -> Result<Stored, Fault>
+pub(crate) fn look(shelves: &[Option<Stored>; SHELVES], shelf: u32) -> Result<Stored, Fault>
     ensures is { result ≡ looked_at shelves.now shelf }
     ensures within { OnOk result (shelf < 16) }
 {
-    if shelf as usize >= SHELVES {
-        return Err(refusal(Refusal::NoSuchShelf, 0));
-    }
-    match shelves[shelf as usize] {
-        Shelf::Filled(stored) => Ok(stored),
-        Shelf::Empty => Err(refusal(Refusal::ShelfEmpty, 0)),
-    }
+    let place = shelves
+        .get(shelf as usize)
+        .ok_or(refusal(Refusal::NoSuchShelf, 0))?;
+    place.ok_or(refusal(Refusal::ShelfEmpty, 0))
 }
 
-// That there is such a shelf and it is empty, or a refusal.
-pub(crate) fn vacant(shelves: &[Shelf; SHELVES], shelf: u32) -> Result<(), Fault>
+// That there is such a shelf and it is empty, or a refusal. (That there is one is told here as above: a function for it would have a longer contract than that
+// line has words.)
+pub(crate) fn vacant(shelves: &[Option<Stored>; SHELVES], shelf: u32) -> Result<(), Fault>
     ensures is { result ≡ vacant_at shelves.now shelf }
     ensures within { OnOk result (shelf < 16) }
 {
-    if shelf as usize >= SHELVES {
-        return Err(refusal(Refusal::NoSuchShelf, 0));
-    }
-    match shelves[shelf as usize] {
-        Shelf::Filled(_) => Err(refusal(Refusal::ShelfFilled, 0)),
-        Shelf::Empty => Ok(()),
+    let place = shelves
+        .get(shelf as usize)
+        .ok_or(refusal(Refusal::NoSuchShelf, 0))?;
+    match place {
+        Some(_) => Err(refusal(Refusal::ShelfFilled, 0)),
+        None => Ok(()),
     }
 }
 
-// The number of the lowest filled shelf; the count of shelves where none is filled.
-pub(crate) fn lowest_filled(shelves: &[Shelf; SHELVES]) -> usize
-    ensures { Lowest shelves.now result }
+// The number of the lowest filled shelf.
+pub(crate) fn lowest_filled(shelves: &[Option<Stored>; SHELVES]) -> Option<usize>
+    ensures { result ≡ position is_some shelves.now }
 {
-    for i in 0..SHELVES {
-        if let Shelf::Filled(_) = shelves[i] {
-            return i;
-        }
-    }
-    SHELVES
+    shelves.iter().position(Option::is_some)
 }

@@ -1,5 +1,7 @@
 //! Inputs that any program can make alike: pseudo-random from a fixed seed.
 
+use arrayvec::ArrayVec;
+
 // no input has more bytes: 512 entries of a mark and two bytes, and five marks
 const ROOM: usize = 2048;
 
@@ -38,33 +40,28 @@ impl Random {
 /// The bytes of a value; what does not fit is left out.
 #[derive(Drop)]
 pub struct Input {
-    room: [u8; ROOM],
-    used: usize,
+    written: ArrayVec<u8, ROOM>,
 }
 
 impl Input {
     fn new() -> Input {
         Input {
-            room: [0; ROOM],
-            used: 0,
+            written: ArrayVec::new(),
         }
     }
 
     /// The bytes.
     pub fn bytes(&self) -> &[u8] {
-        &self.room[..self.used.min(ROOM)]
+        self.written.as_slice()
     }
 
     fn push(&mut self, byte: u8) {
-        if self.used < ROOM {
-            self.room[self.used] = byte;
-            self.used += 1;
-        }
+        let _ = self.written.try_push(byte);
     }
 
     // a mark and a number of at most fourteen bits, always in two bytes: a form longer than the shortest is read like any other
     fn marked(&mut self, mark: bool, number: u32) {
-        self.push(if mark { 1 } else { 0 });
+        self.push(u8::from(mark));
         self.push((number & 127) as u8 | 128);
         self.push((number >> 7 & 127) as u8);
     }
@@ -125,9 +122,7 @@ impl Input {
 
 /// A number that tells byte strings apart.
 pub fn checksum(bytes: &[u8]) -> u32 {
-    let mut sum: u32 = 0;
-    for byte in bytes {
-        sum = sum.wrapping_mul(31).wrapping_add(u32::from(*byte));
-    }
-    sum
+    bytes.iter().fold(0u32, |sum, byte| {
+        sum.wrapping_mul(31).wrapping_add(u32::from(*byte))
+    })
 }

@@ -1,6 +1,6 @@
 //! Runs a routine through the machine, in slices and over any pool.
 
-ghost use Rattle.std.specs.Prelude.{◌≡◌, ◌<◌, take};
+ghost use Rattle.std.specs.Prelude.{◌<◌};
 ghost use Rattle.store.specs.Scanning.{Listed};
 
 use crate::input::{Random, checksum};
@@ -9,7 +9,7 @@ use assembler::assemble;
 use code::Code;
 use codec::fault::Fault;
 use judge::admit::admit;
-use machine::{Machine, Progress};
+use machine::{Machine, Progress, Ran};
 use pool::Pool;
 use std::rt::Clock;
 use std::time::Instant;
@@ -17,9 +17,6 @@ use store::build::put;
 use store::release::release;
 use store::show::show;
 use tables::listing::{Entry, Listing, Signature};
-
-// a table has room for so many types
-const MOST_TYPES: usize = 64;
 
 // a function has so many parameters at most
 const MOST_PARAMS: usize = 6;
@@ -37,40 +34,51 @@ pub struct Job {
     pub slices: u32,
 }
 
-/// How a run ended: the steps taken, whether it gave a result and that result's checksum, and the nanoseconds spent on carrying it and on all from its loading to its
-/// finish. Where the clock cannot be read, they are 0.
-#[derive(Clone, Copy)]
-pub struct Outcome {
-    pub steps: u32,
-    pub done: bool,
-    pub checksum: u32,
+/// The nanoseconds that a run took: on carrying it, and on all from its loading to its finish.
+#[derive(Clone, Copy, Default)]
+pub struct Times {
     pub carried: u64,
     pub whole: u64,
 }
 
-// the time, where it can be told
-fn instant(clock: &impl Clock) -> Option<Instant> {
-    match Instant::now(clock) {
-        Ok(time) => Some(time),
-        Err(_) => None,
+impl Times {
+    fn plus(self, other: Times) -> Times {
+        Times {
+            carried: self.carried.saturating_add(other.carried),
+            whole: self.whole.saturating_add(other.whole),
+        }
+    }
+
+    // the mean of so many, one at least
+    fn over(self, count: u32) -> Times {
+        let count = u64::from(count.max(1));
+        Times {
+            carried: self.carried / count,
+            whole: self.whole / count,
+        }
+    }
+
+    /// The less of both, each by itself.
+    pub fn least(self, other: Times) -> Times {
+        Times {
+            carried: self.carried.min(other.carried),
+            whole: self.whole.min(other.whole),
+        }
     }
 }
 
-// nanoseconds from one time to another
-fn between(from: Option<Instant>, to: Option<Instant>) -> u64 {
-    if let (Some(from), Some(to)) = (from, to) {
-        let nanoseconds = to.duration_since(from).as_nanos();
-        return u64::try_from(nanoseconds).unwrap_or(u64::MAX);
-    }
-    0
+/// How a run ended: the steps taken, its result's checksum where it gave one, and its times where the clock could be read.
+#[derive(Clone, Copy)]
+pub struct Outcome {
+    pub steps: u32,
+    pub checksum: Option<u32>,
+    pub times: Option<Times>,
 }
 
-// The entries of a table's types, by number.
-fn front(entries: &[Entry; MOST_TYPES], count: usize) -> &[Entry]
-    ensures { result.now ≡ take count entries.now }
-{
-    let count = count.min(MOST_TYPES);
-    &entries[..count]
+// nanoseconds from one time to another, where both could be told
+fn between(from: Option<Instant>, to: Option<Instant>) -> Option<u64> {
+    let nanoseconds = to?.duration_since(from?).as_nanos();
+    Some(u64::try_from(nanoseconds).unwrap_or(u64::MAX))
 }
 
 // The number of the last function; a table has 32 at most.
@@ -96,12 +104,13 @@ fn put_arguments<P: Pool>(
 {
     let mut random = Random::new();
     let mut arguments = [[0; 16]; MOST_PARAMS];
-    for k in 0..signature.arity.min(MOST_PARAMS) {
-        let t = signature.params[k];
+    let arity = signature.arity.min(MOST_PARAMS);
+    for (words, t) in arguments.iter_mut().zip(&signature.params[..arity]) {
+        let t = *t;
         let input = job.routine.argument(job.entries, &mut random);
         if (t as usize) < entries.len() {
             let spare = pool.count();
-            arguments[k] = put(pool, entries, t, input.bytes(), spare)?;
+            *words = put(pool, entries, t, input.bytes(), spare)?;
         }
     }
     Ok(arguments)
@@ -118,27 +127,29 @@ fn load_arguments<P: Pool>(
     requires { Listed entries.now }
 {
     machine.clear();
-    for k in 0..signature.arity.min(MOST_PARAMS) {
-        let t = signature.params[k];
+    let arity = signature.arity.min(MOST_PARAMS);
+    for (words, t) in arguments.iter().zip(&signature.params[..arity]) {
+        let t = *t;
         if (t as usize) < entries.len() {
-            machine.load(pool, entries, t, &arguments[k]);
+            machine.load(pool, entries, t, words);
         }
     }
 }
 
-// The run is carried on as the job says: how many steps it took, and whether it is done.
-fn carry_on<P: Pool>(pool: &mut P, machine: &mut Machine, code: &Code, job: Job) -> (u32, bool) {
+// The run is carried on as the job says.
+fn carry_on<P: Pool>(pool: &mut P, machine: &mut Machine, code: &Code, job: Job) -> Ran {
     let mut steps: u32 = 0;
     for _ in 0..job.slices {
         let ran = machine.carry(code, pool, job.slice);
         steps = steps.saturating_add(ran.steps);
-        match ran.progress {
-            Progress::Going => {}
-            Progress::Done => return (steps, true),
-            Progress::Halted(_) => return (steps, false),
+        if !matches!(ran.progress, Progress::Going) {
+            break;
         }
     }
-    (steps, false)
+    Ran {
+        steps,
+        progress: machine.progress(),
+    }
 }
 
 // The result's checksum; its cells are given back.
@@ -170,27 +181,27 @@ fn run_once<P: Pool>(
     let signature = last_signature(listing);
     let t = signature.result;
     let arguments = put_arguments(pool, entries, signature, job)?;
-    let loads = instant(clock);
+    let loads = Instant::now(clock).ok();
     load_arguments(pool, machine, entries, signature, &arguments);
-    let begins = instant(clock);
+    let begins = Instant::now(clock).ok();
     machine.begin(code, function as u32);
-    let (steps, done) = carry_on(pool, machine, code, job);
-    let ends = instant(clock);
-    let mut sum = 0;
+    let ran = carry_on(pool, machine, code, job);
+    let ends = Instant::now(clock).ok();
     let mut finished = ends;
-    if done && (t as usize) < entries.len() {
+    let mut sum = None;
+    if matches!(ran.progress, Progress::Done) && (t as usize) < entries.len() {
         let words = machine.finish(pool, entries, t);
-        finished = instant(clock);
-        sum = consume(pool, entries, t, &words);
+        finished = Instant::now(clock).ok();
+        sum = Some(consume(pool, entries, t, &words));
     } else {
         machine.abandon(pool);
     }
     Ok(Outcome {
-        steps,
-        done,
+        steps: ran.steps,
         checksum: sum,
-        carried: between(begins, ends),
-        whole: between(loads, finished),
+        times: between(begins, ends)
+            .zip(between(loads, finished))
+            .map(|(carried, whole)| Times { carried, whole }),
     })
 }
 
@@ -208,16 +219,12 @@ fn run_many<P: Pool>(
     requires { Listed entries.now }
 {
     let mut last = run_once(clock, pool, machine, listing, entries, code, job)?;
-    let mut carried = last.carried;
-    let mut whole = last.whole;
+    let mut sum = last.times;
     for _ in 1..runs {
         last = run_once(clock, pool, machine, listing, entries, code, job)?;
-        carried = carried.saturating_add(last.carried);
-        whole = whole.saturating_add(last.whole);
+        sum = sum.zip(last.times).map(|(all, one)| all.plus(one));
     }
-    let count = u64::from(runs.max(1));
-    last.carried = carried / count;
-    last.whole = whole / count;
+    last.times = sum.map(|all| all.over(runs));
     Ok(last)
 }
 
@@ -233,6 +240,6 @@ pub fn run_job<P: Pool>(
     let table = admit(job.routine.table())?;
     let code = assemble(&table);
     let listing = table.listing();
-    let entries = front(&listing.entries, listing.types);
+    let entries = listing.type_entries();
     run_many(clock, pool, machine, listing, entries, &code, job, runs)
 }

@@ -1,7 +1,8 @@
 -- A cell is taken and filled word by word, and words are read from one; numbers are read with a default.
-use Rattle.std.proofs.Common.{◌≡◌, ℕ, ◌+◌, ◌-◌, ◌<◌, ◌≤◌, Bool, true, false, cond, ◌&&◌, ltb, ◌≢◌, List, [], length, get_or, drop, set, is_some, Some, None, Ok, Err, Option, unwrap_or, sym, refl, ap, ◌∙◌, arith, length-drop, length-set, below_more}
+use Rattle.std.proofs.Common.{◌≡◌, ℕ, ◌+◌, ◌-◌, ◌<◌, ◌≤◌, Bool, true, false, cond, ◌&&◌, ltb, ◌≢◌, List, [], length, get_or, drop, set, is_some, Some, None, Option, Result, unwrap_or, sym, refl, ap, ◌∙◌, subst, arith, length-drop, length-set, below_more}
 use Rattle.std.proofs.lemmas.List.{get_or-set_same, get_or-set_other, ext_get_or}
 use Rattle.std.proofs.lemmas.Bool.{lt-ltb}
+use Rattle.std.specs.Result.{result_unwrap_or}
 use Rattle.codec.specs.Number.{Numeral, got, ended, overlong, number, Right}
 use Rattle.codec.specs.Reading.{Finds, begun, found, number_at}
 use Rattle.codec.specs.declared.fault.Refusal.{Refusal}
@@ -14,25 +15,21 @@ use Rattle.store.proofs.Tops.{never}
 
 -- ---- a number, or 0 where there is none
 
-from_ok' : (at : ℕ) (bs : List ℕ) (n : Numeral) (x : ℕ × ℕ) → Right 4 (drop at bs) n → Ok x ≡ found (begun n at) → (x ≡ read_from at n) × (at < x.1) × (at < length bs)
-from_ok' at bs (got v n) x w e =
-    let q : x ≡ (v, at + n) = cc in
-    (q, omega (arith, ap (λ y. y.1) q, w.0.some), omega (arith, w.0.some, w.0.there, length-drop at bs))
-from_ok' at bs ended x w e = never (cc)
-from_ok' at bs overlong x w e = never (cc)
+-- what is read so: the number that begins there, if any, and then the place is a later one
+pub record Read (at : ℕ) (bs : List ℕ) (n : Numeral) (x : ℕ × ℕ) : Type 0 where
+  pub is : x ≡ read_from at n
+  pub on : at ≤ x.1
+  pub past : 0 < x.0 → (at < x.1) × (at < length bs)
 
-pub from_ok : (at : ℕ) (bs : List ℕ) (x : ℕ × ℕ) → Finds bs at (Ok x) → (x ≡ read_from at (number (drop at bs))) × (at < x.1) × (at < length bs)
+read_any : (at : ℕ) (bs : List ℕ) (n : Numeral) → Right 4 (drop at bs) n → Read at bs n (result_unwrap_or (found (begun n at)) (0, at))
+read_any at bs (got v n) w = record { is = refl; on = omega arith; past = λ _. (omega (arith, w.0.some), omega (arith, w.0.some, w.0.there, length-drop at bs)) }
+read_any at bs ended w = record { is = refl; on = omega arith; past = λ z. absurd (omega (arith, z)) }
+read_any at bs overlong w = record { is = refl; on = omega arith; past = λ z. absurd (omega (arith, z)) }
+
+pub read_or : (at : ℕ) (bs : List ℕ) (r : Result (ℕ × ℕ) Refusal) (x : ℕ × ℕ) → Finds bs at r → x ≡ result_unwrap_or r (0, at) → Read at bs (number (drop at bs)) x
 unfolding number_at
-from_ok at bs x f = from_ok' at bs (number (drop at bs)) x f.right f.answer
-
-from_err' : (at : ℕ) (n : Numeral) (x : Refusal) → Err x ≡ found (begun n at) → (0, at) ≡ read_from at n
-from_err' at (got v n) x e = never (cc)
-from_err' at ended x e = refl
-from_err' at overlong x e = refl
-
-pub from_err : (at : ℕ) (bs : List ℕ) (x : Refusal) → Finds bs at (Err x) → (0, at) ≡ read_from at (number (drop at bs))
-unfolding number_at
-from_err at bs x f = from_err' at (number (drop at bs)) x f.answer
+read_or at bs r x f e =
+    subst (Read at bs (number (drop at bs))) (sym (e ∙ ap (λ r. result_unwrap_or r (0, at)) f.answer)) (read_any at bs (number (drop at bs)) f.right)
 
 -- ---- the words of a cell are read
 

@@ -18,25 +18,25 @@ use Rattle.tables.specs.declared.listing.Form.TheVariants as Form
 use Rattle.store.specs.Decoding.{decode, whole, value_at}
 use Rattle.store.specs.Scanning.{Counts, Known, Listed, checked, front_at, parts, values_at, wide, work}
 use Rattle.store.proofs.Refers.{refers, typed, wide_some, wide_most}
-use Rattle.store.proofs.Readings.{When, then_when, cond_when, Ahead, Opened, number_ahead, marked_when, by_parts}
+use Rattle.store.proofs.Readings.{When, then_when, cond_when, Ahead, Opened, number_ahead, marked_when, part_types, by_parts}
 use Rattle.store.proofs.Tops.{never}
 
 -- what is known of a front that was read
 abbrev Fronted : List ℕ → F.Form → Bool → ℕ → ℕ → ℕ → ℕ → Type 0
 Fronted bs Form.Number more s s' p q = (p < q) × (p < length bs) × (s' ≡ s)
 Fronted bs Form.Diamond more s s' p q = (q ≡ p) × (s' + 1 ≡ s)
-Fronted bs Form.List more s s' p q = Opened bs 1 s p (more, s') q
-Fronted bs Form.Tree more s s' p q = Opened bs 2 s p (more, s') q
-Fronted bs Form.Pair more s s' p q = (q ≡ p) × (s' ≡ s)
-Fronted bs Form.Sum more s s' p q = Opened bs 0 s p (more, s') q
+Fronted bs (Form.List a) more s s' p q = Opened bs 1 s p (more, s') q
+Fronted bs (Form.Tree a) more s s' p q = Opened bs 2 s p (more, s') q
+Fronted bs (Form.Pair a b) more s s' p q = (q ≡ p) × (s' ≡ s)
+Fronted bs (Form.Sum a b) more s s' p q = Opened bs 0 s p (more, s') q
 
 front_when : (bs : List ℕ) (f : F.Form) (s p : ℕ) → When (λ r q. Fronted bs f r.0 s r.1 p q) (front_at f s bs p)
 front_when bs Form.Number s p = then_when (λ c q. Ahead bs p q) _ (number_at bs p) _ (number_ahead bs p) (λ c q h. (h.0, h.1, refl))
 front_when bs Form.Diamond s p = cond_when _ (leb 1 s) (done (false, s - 1) p) (refused CellsLacking p) (λ e. (refl, omega (arith, leb-true 1 s e))) (λ e. tt)
-front_when bs Form.List s p = marked_when 1 s bs p
-front_when bs Form.Tree s p = marked_when 2 s bs p
-front_when bs Form.Pair s p = (refl, refl)
-front_when bs Form.Sum s p = marked_when 0 s bs p
+front_when bs (Form.List a) s p = marked_when 1 s bs p
+front_when bs (Form.Tree a) s p = marked_when 2 s bs p
+front_when bs (Form.Pair a b) s p = (refl, refl)
+front_when bs (Form.Sum a b) s p = marked_when 0 s bs p
 
 -- what is left to do is known, is no wider than the cells counted allow, and is less
 pub record Onward (es : List Entry) (bs l : List ℕ) (s p : ℕ) (l' : List ℕ) (s' q : ℕ) : Type 0 where
@@ -52,7 +52,7 @@ module _ (es : List Entry) (ts : List Ty) (T : Types es ts) where
 
   module _ (bs : List ℕ) (t : ℕ) (h : t < length es) (e : Entry) (is : e ≡ entry_of es t) (l : List ℕ) (k : Known es l) where
     onward : (f : F.Form) → e.form ≡ f → (more : Bool) (s s' p q : ℕ) → Fronted bs f more s s' p q
-        → Onward es bs (t ∷ l) s p (parts f more t e.first e.second ++ l) s' q
+        → Onward es bs (t ∷ l) s p (parts f more t ++ l) s' q
     onward Form.Number i more s s' p q a =
         let r = refers es ts T t h e is Form.Number i in
         let n = count_wide l k in
@@ -61,78 +61,71 @@ module _ (es : List Entry) (ts : List Ty) (T : Types es ts) where
         let r = refers es ts T t h e is Form.Diamond i in
         let n = count_wide l k in
         record { known = k; narrow = omega (arith, r, a.1); less = omega (arith, r, n, a.0); spent = omega (arith, a.1) }
-    onward Form.List i true s s' p q a =
-        let r = refers es ts T t h e is Form.List i in
+    onward (Form.List x) i true s s' p q a =
+        let r = refers es ts T t h e is (Form.List x) i in
         let n = count_wide l k in
-        let x : e.first < length es = omega (arith, r.0) in
-        record { known = (x, (h, k)); narrow = omega (arith, r.1, r.2, a.2); less = omega (arith, r.1, r.2, n, a.0, a.1, wide_some es ts T e.first x); spent = omega (arith, a.2) }
-    onward Form.List i false s s' p q a =
-        let r = refers es ts T t h e is Form.List i in
+        let hx : x < length es = omega (arith, r.0) in
+        record { known = (hx, (h, k)); narrow = omega (arith, r.1, r.2, a.2); less = omega (arith, r.1, r.2, n, a.0, a.1, wide_some es ts T x hx); spent = omega (arith, a.2) }
+    onward (Form.List x) i false s s' p q a =
+        let r = refers es ts T t h e is (Form.List x) i in
         let n = count_wide l k in
         record { known = k; narrow = omega (arith, r.1, a.2); less = omega (arith, r.1, n, a.0, a.1); spent = omega (arith, a.2) }
-    onward Form.Tree i true s s' p q a =
-        let r = refers es ts T t h e is Form.Tree i in
+    onward (Form.Tree x) i true s s' p q a =
+        let r = refers es ts T t h e is (Form.Tree x) i in
         let n = count_wide l k in
-        let x : e.first < length es = omega (arith, r.0) in
+        let hx : x < length es = omega (arith, r.0) in
         let w = wide_most es ts T t h in
-        record { known = (x, (h, (h, k))); narrow = omega (arith, r.1, w, a.2); less = omega (arith, r.1, w, n, a.0, a.1, wide_some es ts T e.first x); spent = omega (arith, a.2) }
-    onward Form.Tree i false s s' p q a =
-        let r = refers es ts T t h e is Form.Tree i in
+        record { known = (hx, (h, (h, k))); narrow = omega (arith, r.1, w, a.2); less = omega (arith, r.1, w, n, a.0, a.1, wide_some es ts T x hx); spent = omega (arith, a.2) }
+    onward (Form.Tree x) i false s s' p q a =
+        let r = refers es ts T t h e is (Form.Tree x) i in
         let n = count_wide l k in
-        let x : e.first < length es = omega (arith, r.0) in
-        record { known = (x, k); narrow = omega (arith, r.1, a.2); less = omega (arith, r.1, n, a.0, a.1, wide_some es ts T e.first x); spent = omega (arith, a.2) }
-    onward Form.Pair i more s s' p q a =
-        let r = refers es ts T t h e is Form.Pair i in
+        let hx : x < length es = omega (arith, r.0) in
+        record { known = (hx, k); narrow = omega (arith, r.1, a.2); less = omega (arith, r.1, n, a.0, a.1, wide_some es ts T x hx); spent = omega (arith, a.2) }
+    onward (Form.Pair x y) i more s s' p q a =
+        let r = refers es ts T t h e is (Form.Pair x y) i in
         let n = count_wide l k in
-        let x : e.first < length es = omega (arith, r.0) in
-        let y : e.second < length es = omega (arith, r.1) in
-        record { known = (x, (y, k)); narrow = omega (arith, r.2, a.1); less = omega (arith, r.2, n, a.0, wide_some es ts T e.first x, wide_some es ts T e.second y); spent = omega (arith, a.1) }
-    onward Form.Sum i true s s' p q a =
-        let r = refers es ts T t h e is Form.Sum i in
+        let hx : x < length es = omega (arith, r.0) in
+        let hy : y < length es = omega (arith, r.1) in
+        record { known = (hx, (hy, k)); narrow = omega (arith, r.2, a.1); less = omega (arith, r.2, n, a.0, wide_some es ts T x hx, wide_some es ts T y hy); spent = omega (arith, a.1) }
+    onward (Form.Sum x y) i true s s' p q a =
+        let r = refers es ts T t h e is (Form.Sum x y) i in
         let n = count_wide l k in
-        let y : e.second < length es = omega (arith, r.1) in
-        record { known = (y, k); narrow = omega (arith, r.2, a.2); less = omega (arith, r.2, n, a.0, a.1, wide_some es ts T e.second y); spent = omega (arith, a.2) }
-    onward Form.Sum i false s s' p q a =
-        let r = refers es ts T t h e is Form.Sum i in
+        let hy : y < length es = omega (arith, r.1) in
+        record { known = (hy, k); narrow = omega (arith, r.2, a.2); less = omega (arith, r.2, n, a.0, a.1, wide_some es ts T y hy); spent = omega (arith, a.2) }
+    onward (Form.Sum x y) i false s s' p q a =
+        let r = refers es ts T t h e is (Form.Sum x y) i in
         let n = count_wide l k in
-        let x : e.first < length es = omega (arith, r.0) in
-        record { known = (x, k); narrow = omega (arith, r.2, a.2); less = omega (arith, r.2, n, a.0, a.1, wide_some es ts T e.first x); spent = omega (arith, a.2) }
+        let hx : x < length es = omega (arith, r.0) in
+        record { known = (hx, k); narrow = omega (arith, r.2, a.2); less = omega (arith, r.2, n, a.0, a.1, wide_some es ts T x hx); spent = omega (arith, a.2) }
 
     read_onward : (more : Bool) (s s' p q : ℕ) → front_at e.form s bs p ≡ done (more, s') q
-        → Onward es bs (t ∷ l) s p (parts e.form more t e.first e.second ++ l) s' q
+        → Onward es bs (t ∷ l) s p (parts e.form more t ++ l) s' q
     read_onward more s s' p q r = onward e.form refl more s s' p q (subst (When (λ r q. Fronted bs e.form r.0 s r.1 p q)) r (front_when bs e.form s p))
 
-    map_parts : (f : F.Form) (more : Bool) (x y : ℕ)
-        → map (type_at ts) (parts f more t x y ++ l) ≡ parts f more (type_at ts t) (type_at ts x) (type_at ts y) ++ map (type_at ts) l
-    map_parts Form.Number more x y = refl
-    map_parts Form.Diamond more x y = refl
-    map_parts Form.List true x y = refl
-    map_parts Form.List false x y = refl
-    map_parts Form.Tree true x y = refl
-    map_parts Form.Tree false x y = refl
-    map_parts Form.Pair more x y = refl
-    map_parts Form.Sum true x y = refl
-    map_parts Form.Sum false x y = refl
+    -- the types of the parts are those that their numbers have
+    map_parts : (f : F.Form) (more : Bool) → type_at ts t ≡ formed ts f → map (type_at ts) (parts f more t ++ l) ≡ part_types ts f more ++ map (type_at ts) l
+    map_parts Form.Number more i = refl
+    map_parts Form.Diamond more i = refl
+    map_parts (Form.List x) true i = ap (λ A. type_at ts x ∷ A ∷ map (type_at ts) l) i
+    map_parts (Form.List x) false i = refl
+    map_parts (Form.Tree x) true i = ap (λ A. type_at ts x ∷ A ∷ A ∷ map (type_at ts) l) i
+    map_parts (Form.Tree x) false i = refl
+    map_parts (Form.Pair x y) more i = refl
+    map_parts (Form.Sum x y) true i = refl
+    map_parts (Form.Sum x y) false i = refl
 
     split : (s p : ℕ) → values_at (map (type_at ts) (t ∷ l)) s bs p
-        ≡ then (front_at e.form s bs p) (λ r q. values_at (parts e.form r.0 (formed e.form (type_at ts e.first) (type_at ts e.second)) (type_at ts e.first) (type_at ts e.second) ++ map (type_at ts) l) r.1 bs q)
-    split s p = ap (λ A. values_at (A ∷ map (type_at ts) l) s bs p) (typed es ts T t h e is e.form refl)
-        ∙ by_parts bs e.form (type_at ts e.first) (type_at ts e.second) (map (type_at ts) l) s p
+        ≡ then (front_at e.form s bs p) (λ r q. values_at (part_types ts e.form r.0 ++ map (type_at ts) l) r.1 bs q)
+    split s p = ap (λ A. values_at (A ∷ map (type_at ts) l) s bs p) (typed es ts T t h e is e.form refl) ∙ by_parts bs ts e.form (map (type_at ts) l) s p
 
     read_same : (more : Bool) (s s' p q : ℕ) → front_at e.form s bs p ≡ done (more, s') q
-        → values_at (map (type_at ts) (t ∷ l)) s bs p ≡ values_at (map (type_at ts) (parts e.form more t e.first e.second ++ l)) s' bs q
+        → values_at (map (type_at ts) (t ∷ l)) s bs p ≡ values_at (map (type_at ts) (parts e.form more t ++ l)) s' bs q
     read_same more s s' p q r =
-        let A = type_at ts e.first in
-        let B = type_at ts e.second in
-        split s p ∙ ap (λ r. then r (λ r q. values_at (parts e.form r.0 (formed e.form A B) A B ++ map (type_at ts) l) r.1 bs q)) r
-        ∙ ap (λ C. values_at (parts e.form more C A B ++ map (type_at ts) l) s' bs q) (sym (typed es ts T t h e is e.form refl))
-        ∙ ap (λ z. values_at z s' bs q) (sym (map_parts e.form more e.first e.second))
+        split s p ∙ ap (λ r. then r (λ r q. values_at (part_types ts e.form r.0 ++ map (type_at ts) l) r.1 bs q)) r
+        ∙ ap (λ z. values_at z s' bs q) (sym (map_parts e.form more (typed es ts T t h e is e.form refl)))
 
     read_refused : (s p : ℕ) (why : Refusal) (q : ℕ) → front_at e.form s bs p ≡ refused why q → values_at (map (type_at ts) (t ∷ l)) s bs p ≡ refused why q
-    read_refused s p why q r =
-        let A = type_at ts e.first in
-        let B = type_at ts e.second in
-        split s p ∙ ap (λ r. then r (λ r q. values_at (parts e.form r.0 (formed e.form A B) A B ++ map (type_at ts) l) r.1 bs q)) r
+    read_refused s p why q r = split s p ∙ ap (λ r. then r (λ r q. values_at (part_types ts e.form r.0 ++ map (type_at ts) l) r.1 bs q)) r
 
 -- the pile's room
 abbrev pub room : ℕ
@@ -168,11 +161,11 @@ module _ (es : List Entry) (bs : List ℕ) (t most : ℕ) (l : List ℕ) (s : �
   front_is f = ap (λ b. front_at e.form s b c.at) (sym S.bytes) ∙ f
 
   pub sofar_more : (more : Bool) (s' : ℕ) (c' : Cursor) (l' : List ℕ) → Counts (front_at e.form) c s (Ok more) c' s'
-      → (length (parts e.form more x e.first e.second ++ l₁) ≤ room → l' ≡ parts e.form more x e.first e.second ++ l₁)
+      → (length (parts e.form more x ++ l₁) ≤ room → l' ≡ parts e.form more x ++ l₁)
       → Sofar es bs t most l' s' c' × (work es bs l' c'.at < work es bs l c.at)
   sofar_more more s' c' l' a fits =
       let T = L.1 in
-      let ls = parts e.form more x e.first e.second ++ l₁ in
+      let ls = parts e.form more x ++ l₁ in
       let r = front_is (is_done (front_at e.form s c.bytes.now c.at) c.part (more, s') c'.at a.answer) in
       let o = read_onward es L.0 T bs x at_top.0 e is l₁ at_top.1 more s s' c.at c'.at r in
       let w = ap (wide es) top in

@@ -42,9 +42,6 @@ module _ (S : Type 0) (R : S → List ℕ → List ℕ → S → Type 0) (none :
     hand_cell A c cells ws s s₁ s₂ p ld q v u h k =
         joins s s₁ s₂ [] (write v) (c ∷ []) (footprint m A v (words_of m c) 0) p (subst (λ y. Walks m A y 0 (cells - 1) (λ xs cs. R s₁ xs cs s₂)) (ld u) q v h (omega arith))
 
-    pub hand_no_cell : (A : Ty) (c cells : ℕ) (s t : S) → cells ≡ 0 → WalksCell m A c cells (λ xs cs. R s xs cs t)
-    hand_no_cell A c cells s t z v u h k = absurd (omega arith)
-
     module _ (A : Ty) (ws : List ℕ) (o cells : ℕ) where
       say : (B : Ty) (s t : S) → A ≡ B → Walks m B ws o cells (λ xs cs. R s xs cs t) → Walks m A ws o cells (λ xs cs. R s xs cs t)
       say B s t e p = subst (λ X. Walks m X ws o cells (λ xs cs. R s xs cs t)) (sym e) p

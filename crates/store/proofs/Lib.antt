@@ -3,6 +3,7 @@ pub mod Moves
 pub mod Shown
 pub mod Uniques
 pub mod Refers
+mod Shapes
 mod Readings
 mod Fronts
 mod Spelt

@@ -1,5 +1,5 @@
 -- How readings that count cells follow one another.
-use Rattle.std.proofs.Common.{◌≡◌, ℕ, zero, suc, ◌+◌, ◌-◌, ◌<◌, ◌≤◌, Bool, true, false, cond, ◌&&◌, eqb, ltb, leb, List, ◌∷◌, ◌++◌, length, drop, sym, refl, ap, ◌∙◌, arith, length-drop}
+use Rattle.std.proofs.Common.{◌≡◌, ℕ, zero, suc, ◌+◌, ◌-◌, ◌<◌, ◌≤◌, Bool, true, false, cond, ◌&&◌, eqb, ltb, leb, List, [], ◌∷◌, ◌++◌, length, drop, sym, refl, ap, ◌∙◌, arith, length-drop}
 use Rattle.std.proofs.lemmas.Bool.{leb-true}
 use Rattle.codec.proofs.Forms.{right}
 use Rattle.codec.proofs.Numbers.{numeral_end}
@@ -8,9 +8,10 @@ use Rattle.codec.specs.Reading.{Scan, done, refused, then, begun, number_at, wit
 use Rattle.codec.specs.declared.fault.Refusal.{Refusal}
 use Rattle.codec.specs.declared.fault.Refusal.TheVariants.{Ended, OutOfRange, CellsLacking}
 use Rattle.lfpl.specs.Syntax.{Ty, int, diamond, list_of, tree_of, pair_of, sum_of}
+use Rattle.lfpl.specs.Typing.{type_at}
 use Rattle.lfpl.specs.Values.{Val, dia, nil, cons, leaf, node, left}
 use Rattle.store.specs.Decoding.{Decoder, spend, marked, list_at, tree_at, value_at}
-use Rattle.store.specs.Scanning.{values_at, front_at, parts}
+use Rattle.store.specs.Scanning.{values_at, front_at}
 use Rattle.tables.specs.Listed.{formed}
 use Rattle.tables.specs.declared.listing.Form as F
 use Rattle.tables.specs.declared.listing.Form.TheVariants as Form
@@ -48,6 +49,18 @@ cond_eq : {X : Type 0} (b : Bool) (x y z w : X) → (b ≡ true → x ≡ z) →
 cond_eq true x y z w h k = h refl
 cond_eq false x y z w h k = k refl
 
+-- the types of a value's parts, by the form of its own
+abbrev pub part_types : List Ty → F.Form → Bool → List Ty
+part_types ts Form.Number more = []
+part_types ts Form.Diamond more = []
+part_types ts (Form.List a) true = type_at ts a ∷ list_of (type_at ts a) ∷ []
+part_types ts (Form.List a) false = []
+part_types ts (Form.Tree a) true = type_at ts a ∷ tree_of (type_at ts a) ∷ tree_of (type_at ts a) ∷ []
+part_types ts (Form.Tree a) false = type_at ts a ∷ []
+part_types ts (Form.Pair a b) more = type_at ts a ∷ type_at ts b ∷ []
+part_types ts (Form.Sum a b) true = type_at ts b ∷ []
+part_types ts (Form.Sum a b) false = type_at ts a ∷ []
+
 -- ---- numbers and marks go on
 
 abbrev pub Ahead : List ℕ → ℕ → ℕ → Type 0
@@ -73,9 +86,6 @@ mark_ahead bs p =
 mark_end : (bs : List ℕ) (p : ℕ) → length bs ≤ p → mark_at bs p ≡ refused Ended p
 unfolding mark_at within_at number_at
 mark_end bs p h = ap (λ (n : Numeral). then (then (begun n p) (λ v q. cond (leb 0 v && ltb v 2) (done v q) (refused OutOfRange p))) (λ v q. done (eqb v 1) q)) (numeral_end 4 bs p h)
-
-pub spend_when : {X : Type 0} (n q : ℕ) (x : X) (s p : ℕ) → When (λ r i. (r.0 ≡ x) × (i ≡ p) × (r.1 + n ≡ s)) (spend n q x s p)
-spend_when n q x s p = cond_when _ (leb n s) (done (x, s - n) p) (refused CellsLacking q) (λ e. (refl, refl, omega (arith, leb-true n s e))) (λ e. tt)
 
 -- a mark that was read, with the cells that come with it
 abbrev pub Opened : List ℕ → ℕ → ℕ → ℕ → Bool × ℕ → ℕ → Type 0
@@ -185,36 +195,36 @@ module _ (bs : List ℕ) where
   abbrev made : Val → ℕ → ℕ → Scan (Val × ℕ)
   made v s q = done (v, s) q
 
-  pub by_parts : (f : F.Form) (A B : Ty) (As : List Ty) (s p : ℕ) → values_at (formed f A B ∷ As) s bs p
-      ≡ then (front_at f s bs p) (λ r q. values_at (parts f r.0 (formed f A B) A B ++ As) r.1 bs q)
+  pub by_parts : (ts : List Ty) (f : F.Form) (As : List Ty) (s p : ℕ) → values_at (formed ts f ∷ As) s bs p
+      ≡ then (front_at f s bs p) (λ r q. values_at (part_types ts f r.0 ++ As) r.1 bs q)
   unfolding value_at values_at list_at tree_at
-  by_parts Form.Number A B As s p = then_assoc (number_at bs p) _ _ ∙ sym (then_assoc (number_at bs p) _ _)
-  by_parts Form.Diamond A B As s p = spend_as 1 p s p dia false _ _ refl
-  by_parts Form.List A B As s p =
-      ap (λ (r : Scan (Val × ℕ)). then r (λ x q. values_at As x.1 bs q)) (value_list A s p)
+  by_parts ts Form.Number As s p = then_assoc (number_at bs p) _ _ ∙ sym (then_assoc (number_at bs p) _ _)
+  by_parts ts Form.Diamond As s p = spend_as 1 p s p dia false _ _ refl
+  by_parts ts (Form.List a) As s p =
+      ap (λ (r : Scan (Val × ℕ)). then r (λ x q. values_at As x.1 bs q)) (value_list (type_at ts a) s p)
       ∙ then_assoc (marked 1 s bs p) _ _ ∙ then_eq (marked 1 s bs p) _ _ (λ r q. go r.0 r.1 q)
     where
       go : (b : Bool) (s q : ℕ)
-          → then (cond b (then (value_at A s bs q) (λ x q₂. then (list_at (value_at A) (length bs) x.1 bs q₂) (λ y q₃. made (cons x.0 y.0) y.1 q₃))) (made nil s q)) (λ x q. values_at As x.1 bs q)
-          ≡ values_at (parts Form.List b (list_of A) A B ++ As) s bs q
-      go true s q = then_assoc (value_at A s bs q) _ _ ∙ then_eq (value_at A s bs q) _ _ (λ x q₂. then_assoc (list_at (value_at A) (length bs) x.1 bs q₂) _ _)
+          → then (cond b (then (value_at (type_at ts a) s bs q) (λ x q₂. then (list_at (value_at (type_at ts a)) (length bs) x.1 bs q₂) (λ y q₃. made (cons x.0 y.0) y.1 q₃))) (made nil s q)) (λ x q. values_at As x.1 bs q)
+          ≡ values_at (part_types ts (Form.List a) b ++ As) s bs q
+      go true s q = then_assoc (value_at (type_at ts a) s bs q) _ _ ∙ then_eq (value_at (type_at ts a) s bs q) _ _ (λ x q₂. then_assoc (list_at (value_at (type_at ts a)) (length bs) x.1 bs q₂) _ _)
       go false s q = refl
-  by_parts Form.Tree A B As s p =
-      ap (λ (r : Scan (Val × ℕ)). then r (λ x q. values_at As x.1 bs q)) (value_tree A s p)
-      ∙ then_assoc (marked 2 s bs p) _ _ ∙ then_eq (marked 2 s bs p) _ _ (λ r q. then_assoc (value_at A r.1 bs q) _ _ ∙ go r.0 r.1 q)
+  by_parts ts (Form.Tree a) As s p =
+      ap (λ (r : Scan (Val × ℕ)). then r (λ x q. values_at As x.1 bs q)) (value_tree (type_at ts a) s p)
+      ∙ then_assoc (marked 2 s bs p) _ _ ∙ then_eq (marked 2 s bs p) _ _ (λ r q. then_assoc (value_at (type_at ts a) r.1 bs q) _ _ ∙ go r.0 r.1 q)
     where
       go : (b : Bool) (s q : ℕ)
-          → then (value_at A s bs q) (λ x q₂. then (cond b (then (tree_at (value_at A) (length bs) x.1 bs q₂) (λ l q₃.
-          then (tree_at (value_at A) (length bs) l.1 bs q₃) (λ y q₄. made (node x.0 l.0 y.0) y.1 q₄))) (made (leaf x.0) x.1 q₂)) (λ x q. values_at As x.1 bs q))
-          ≡ values_at (parts Form.Tree b (tree_of A) A B ++ As) s bs q
-      go true s q = then_eq (value_at A s bs q) _ _ (λ x q₂.
-          then_assoc (tree_at (value_at A) (length bs) x.1 bs q₂) _ _ ∙ then_eq (tree_at (value_at A) (length bs) x.1 bs q₂) _ _ (λ l q₃. then_assoc (tree_at (value_at A) (length bs) l.1 bs q₃) _ _))
+          → then (value_at (type_at ts a) s bs q) (λ x q₂. then (cond b (then (tree_at (value_at (type_at ts a)) (length bs) x.1 bs q₂) (λ l q₃.
+          then (tree_at (value_at (type_at ts a)) (length bs) l.1 bs q₃) (λ y q₄. made (node x.0 l.0 y.0) y.1 q₄))) (made (leaf x.0) x.1 q₂)) (λ x q. values_at As x.1 bs q))
+          ≡ values_at (part_types ts (Form.Tree a) b ++ As) s bs q
+      go true s q = then_eq (value_at (type_at ts a) s bs q) _ _ (λ x q₂.
+          then_assoc (tree_at (value_at (type_at ts a)) (length bs) x.1 bs q₂) _ _ ∙ then_eq (tree_at (value_at (type_at ts a)) (length bs) x.1 bs q₂) _ _ (λ l q₃. then_assoc (tree_at (value_at (type_at ts a)) (length bs) l.1 bs q₃) _ _))
       go false s q = refl
-  by_parts Form.Pair A B As s p = then_assoc (value_at A s bs p) _ _ ∙ then_eq (value_at A s bs p) _ _ (λ x q. then_assoc (value_at B x.1 bs q) _ _)
-  by_parts Form.Sum A B As s p = then_assoc (marked 0 s bs p) _ _ ∙ then_eq (marked 0 s bs p) _ _ (λ r q. go r.0 r.1 q)
+  by_parts ts (Form.Pair a c) As s p = then_assoc (value_at (type_at ts a) s bs p) _ _ ∙ then_eq (value_at (type_at ts a) s bs p) _ _ (λ x q. then_assoc (value_at (type_at ts c) x.1 bs q) _ _)
+  by_parts ts (Form.Sum a c) As s p = then_assoc (marked 0 s bs p) _ _ ∙ then_eq (marked 0 s bs p) _ _ (λ r q. go r.0 r.1 q)
     where
       go : (b : Bool) (s q : ℕ)
-          → then (cond b (then (value_at B s bs q) (λ y q₂. made (Rattle.lfpl.specs.Values.right y.0) y.1 q₂)) (then (value_at A s bs q) (λ x q₂. made (left x.0) x.1 q₂))) (λ x q. values_at As x.1 bs q)
-          ≡ values_at (parts Form.Sum b (sum_of A B) A B ++ As) s bs q
-      go true s q = then_assoc (value_at B s bs q) _ _
-      go false s q = then_assoc (value_at A s bs q) _ _
+          → then (cond b (then (value_at (type_at ts c) s bs q) (λ y q₂. made (Rattle.lfpl.specs.Values.right y.0) y.1 q₂)) (then (value_at (type_at ts a) s bs q) (λ x q₂. made (left x.0) x.1 q₂))) (λ x q. values_at As x.1 bs q)
+          ≡ values_at (part_types ts (Form.Sum a c) b ++ As) s bs q
+      go true s q = then_assoc (value_at (type_at ts c) s bs q) _ _
+      go false s q = then_assoc (value_at (type_at ts a) s bs q) _ _

@@ -1,10 +1,10 @@
 -- What an entry of a table says of its type.
-use Rattle.std.proofs.Common.{◌≡◌, ℕ, ◌+◌, ◌<◌, ◌≤◌, max, Bool, true, false, cond, List, length, sym, refl, ap, ◌∙◌, subst, arith}
+use Rattle.std.proofs.Common.{◌≡◌, ℕ, ◌+◌, ◌<◌, ◌≤◌, max, true, List, length, sym, ap, ◌∙◌, subst, arith}
 use Rattle.std.proofs.lemmas.Bool.{leb-true}
 use Rattle.lfpl.specs.Reading.{roomy}
 use Rattle.lfpl.specs.Syntax.{Ty, int, diamond, list_of, tree_of, pair_of, sum_of, width}
 use Rattle.lfpl.specs.Typing.{type_at}
-use Rattle.tables.specs.Listed.{Lists, Types, entry_of, formed, references}
+use Rattle.tables.specs.Listed.{Below, Lists, Types, entry_of, formed}
 use Rattle.tables.specs.declared.listing.Entry.{Entry}
 use Rattle.tables.specs.declared.listing.Form as F
 use Rattle.tables.specs.declared.listing.Form.TheVariants as Form
@@ -17,9 +17,14 @@ width_pos (tree_of A) = omega arith
 width_pos (pair_of A B) = omega (arith, width_pos A)
 width_pos (sum_of A B) = omega arith
 
-pub type_side : (ts : List Ty) (b : Bool) (x y : ℕ) → type_at ts (cond b x y) ≡ cond b (type_at ts x) (type_at ts y)
-type_side ts true x y = refl
-type_side ts false x y = refl
+-- which entries the entry with the number t refers to where it has the form, and their widths
+abbrev pub Refers : List Entry → ℕ → F.Form → Type 0
+Refers es t Form.Number = (entry_of es t).width ≡ 1
+Refers es t Form.Diamond = (entry_of es t).width ≡ 1
+Refers es t (Form.List a) = (a < t) × ((entry_of es t).width ≡ 1) × ((entry_of es a).width ≤ 15)
+Refers es t (Form.Tree a) = (a < t) × ((entry_of es t).width ≡ 3 + (entry_of es a).width)
+Refers es t (Form.Pair a b) = (a < t) × (b < t) × ((entry_of es t).width ≡ (entry_of es a).width + (entry_of es b).width)
+Refers es t (Form.Sum a b) = (a < t) × (b < t) × ((entry_of es t).width ≡ 1 + max (entry_of es a).width (entry_of es b).width)
 
 module _ (es : List Entry) (ts : List Ty) (T : Types es ts) where
   pub width_is : (i : ℕ) → i < length es → (entry_of es i).width ≡ width (type_at ts i)
@@ -36,39 +41,16 @@ module _ (es : List Entry) (ts : List Ty) (T : Types es ts) where
     lists = subst (Lists ts t) (sym is) (T.lists t (omega (arith, T.long)))
 
     -- the type, by the entry's form
-    pub typed : (f : F.Form) → e.form ≡ f → type_at ts t ≡ formed f (type_at ts e.first) (type_at ts e.second)
-    typed f k = lists.type ∙ ap (λ f. formed f (type_at ts e.first) (type_at ts e.second)) k
+    pub typed : (f : F.Form) → e.form ≡ f → type_at ts t ≡ formed ts f
+    typed f k = lists.type ∙ ap (formed ts) k
 
-    -- which entries it refers to, and their widths
-    abbrev pub Refers : F.Form → Type 0
-    Refers Form.Number = (entry_of es t).width ≡ 1
-    Refers Form.Diamond = (entry_of es t).width ≡ 1
-    Refers Form.List = (e.first < t) × ((entry_of es t).width ≡ 1) × ((entry_of es e.first).width ≤ 15)
-    Refers Form.Tree = (e.first < t) × ((entry_of es t).width ≡ 3 + (entry_of es e.first).width)
-    Refers Form.Pair = (e.first < t) × (e.second < t) × ((entry_of es t).width ≡ (entry_of es e.first).width + (entry_of es e.second).width)
-    Refers Form.Sum = (e.first < t) × (e.second < t) × ((entry_of es t).width ≡ 1 + max (entry_of es e.first).width (entry_of es e.second).width)
-
-    pub refers : (f : F.Form) → e.form ≡ f → Refers f
-    refers Form.Number k = width_is t h ∙ ap width (typed Form.Number k)
-    refers Form.Diamond k = width_is t h ∙ ap width (typed Form.Diamond k)
-    refers Form.List k =
-        let x : e.first < t = lists.first (omega (arith, ap references k)) in
-        let r : roomy (list_of (type_at ts e.first)) ≡ true = ap roomy (sym (typed Form.List k)) ∙ T.roomy t (omega (arith, T.long)) in
-        (x, width_is t h ∙ ap width (typed Form.List k), omega (arith, leb-true (width (type_at ts e.first)) 15 r, width_is e.first (omega arith)))
-    refers Form.Tree k =
-        let x : e.first < t = lists.first (omega (arith, ap references k)) in
-        (x, omega (arith, width_is t h, ap width (typed Form.Tree k), width_is e.first (omega arith)))
-    refers Form.Pair k =
-        let x : e.first < t = lists.first (omega (arith, ap references k)) in
-        let y : e.second < t = lists.second (omega (arith, ap references k)) in
-        (x, y, omega (arith, width_is t h, ap width (typed Form.Pair k), width_is e.first (omega arith), width_is e.second (omega arith)))
-    refers Form.Sum k =
-        let x : e.first < t = lists.first (omega (arith, ap references k)) in
-        let y : e.second < t = lists.second (omega (arith, ap references k)) in
-        (x, y, omega (arith, width_is t h, ap width (typed Form.Sum k), width_is e.first (omega arith), width_is e.second (omega arith)))
-
--- the type of a sum's part is an earlier one, and leaves room for the mark
-pub side_refers : (es : List Entry) (t x y w : ℕ) (b : Bool) → (x < t) × (y < t) × ((entry_of es t).width ≡ 1 + max (entry_of es x).width (entry_of es y).width) → w ≡ cond b x y
-    → (w < t) × ((entry_of es w).width + 1 ≤ (entry_of es t).width)
-side_refers es t x y w true r e = (omega (arith, r.0, e), omega (arith, r.2, ap (λ i. (entry_of es i).width) e))
-side_refers es t x y w false r e = (omega (arith, r.1, e), omega (arith, r.2, ap (λ i. (entry_of es i).width) e))
+    pub refers : (f : F.Form) → e.form ≡ f → Refers es t f
+    refers f k = go f (subst (Below t) k lists.refers) (width_is t h ∙ ap width (typed f k)) (ap roomy (sym (typed f k)) ∙ T.roomy t (omega (arith, T.long)))
+      where
+        go : (f : F.Form) → Below t f → (entry_of es t).width ≡ width (formed ts f) → roomy (formed ts f) ≡ true → Refers es t f
+        go Form.Number b w r = w
+        go Form.Diamond b w r = w
+        go (Form.List x) b w r = (b, w, omega (arith, leb-true (width (type_at ts x)) 15 r, width_is x (omega arith)))
+        go (Form.Tree x) b w r = (b, omega (arith, w, width_is x (omega arith)))
+        go (Form.Pair x y) b w r = (b.0, b.1, omega (arith, w, width_is x (omega arith), width_is y (omega arith)))
+        go (Form.Sum x y) b w r = (b.0, b.1, omega (arith, w, width_is x (omega arith), width_is y (omega arith)))

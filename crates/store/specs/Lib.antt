@@ -2,6 +2,7 @@
 pub mod Layout
 pub mod Decoding
 pub mod Scanning
+pub mod Kinds
 pub mod Spelling
 pub mod Building
 pub mod Walking

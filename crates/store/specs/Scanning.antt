@@ -31,22 +31,22 @@ wide es (t ∷ l) = (entry_of es t).width + wide es l
 abbrev pub front_at : F.Form → Decoder Bool
 front_at Form.Number s bs p = followed (number_at bs p) (λ c q. done (false, s) q)
 front_at Form.Diamond s bs p = spend 1 p false s p
-front_at Form.List s bs p = marked 1 s bs p
-front_at Form.Tree s bs p = marked 2 s bs p
-front_at Form.Pair s bs p = done (false, s) p
-front_at Form.Sum s bs p = marked 0 s bs p
+front_at (Form.List a) s bs p = marked 1 s bs p
+front_at (Form.Tree a) s bs p = marked 2 s bs p
+front_at (Form.Pair a b) s bs p = done (false, s) p
+front_at (Form.Sum a b) s bs p = marked 0 s bs p
 
--- what a value has after its front and that mark: values of these types, where its type is t and is made of x and y
-abbrev pub parts : {X : Type 0} → F.Form → Bool → X → X → X → List X
-parts Form.Number more t x y = []
-parts Form.Diamond more t x y = []
-parts Form.List true t x y = x ∷ t ∷ []
-parts Form.List false t x y = []
-parts Form.Tree true t x y = x ∷ t ∷ t ∷ []
-parts Form.Tree false t x y = x ∷ []
-parts Form.Pair more t x y = x ∷ y ∷ []
-parts Form.Sum true t x y = y ∷ []
-parts Form.Sum false t x y = x ∷ []
+-- what a value has after its front and that mark: values of the types with these numbers, where its own type has the number t and that form
+abbrev pub parts : F.Form → Bool → ℕ → List ℕ
+parts Form.Number more t = []
+parts Form.Diamond more t = []
+parts (Form.List a) true t = a ∷ t ∷ []
+parts (Form.List a) false t = []
+parts (Form.Tree a) true t = a ∷ t ∷ t ∷ []
+parts (Form.Tree a) false t = a ∷ []
+parts (Form.Pair a b) more t = a ∷ b ∷ []
+parts (Form.Sum a b) true t = b ∷ []
+parts (Form.Sum a b) false t = a ∷ []
 
 -- values of these types in turn
 unfoldable pub values_at : List Ty → Decoder (Unit {0})

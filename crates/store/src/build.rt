@@ -4,17 +4,18 @@ ghost use Rattle.lfpl.specs.Syntax.{Ty, pair_of};
 ghost use Rattle.lfpl.specs.Typing.{type_at};
 ghost use Rattle.store.specs.Building.{Boxes, Builds, Fresh, Puts};
 ghost use Rattle.store.specs.Decoding.{decode};
+ghost use Rattle.store.specs.Kinds.{Is, wide};
 ghost use Rattle.store.specs.Scanning.{Listed};
 ghost use Rattle.store.specs.Spelling.{read_from};
-ghost use Rattle.tables.specs.Listed.{Types, entry_of};
+ghost use Rattle.tables.specs.Listed.{Types};
 
-use crate::entries::{entry_at, side, width_at};
+use crate::entries::{Kind, Shape, side};
 use crate::scan::scan;
 use codec::cursor::number_at;
 use codec::fault::Fault;
 use codec::integer::unzigzag;
 use pool::Pool;
-use tables::listing::{Entry, Form};
+use tables::listing::Entry;
 
 // The number that begins at `at`, and the place after it; 0 and `at` where there is none.
 fn number_from(bytes: &[u8], at: usize) -> (u32, usize)
@@ -22,21 +23,19 @@ fn number_from(bytes: &[u8], at: usize) -> (u32, usize)
     ensures on { at ≤ result.1 }
     ensures past { 0 < result.0 → (at < result.1) × (at < length bytes.now) }
 {
-    match number_at(bytes, at) {
-        Ok(pair) => pair,
-        Err(_) => (0, at),
-    }
+    number_at(bytes, at).unwrap_or((0, at))
 }
 
 // A cell that is taken and holds the words; 0 where no cell is free.
+// A number and no Option: what is built was scanned, so a cell is free, and each of the three callers would write the 0 itself.
 fn fresh<P: Pool>(pool: &mut P, words: &[u32; 16]) -> u32
     ensures { 0 < (P.Pool.means pool.old).free → Fresh (P.Pool.means pool.old) words.now result (P.Pool.means pool.new) }
 {
     let Some(cell) = pool.take() else {
         return 0;
     };
-    for k in 0..16usize {
-        let _ = pool.write(cell, k, words[k]);
+    for (k, word) in words.iter().enumerate() {
+        let _ = pool.write(cell, k, *word);
     }
     cell
 }
@@ -50,71 +49,58 @@ fn set_two(words: &mut [u32; 16], place: usize, first: u32, second: u32)
     words[place + 1] = second;
 }
 
-// Builds the value of the type `t` that begins at `at`, its words from `o` on, and answers the place after it.
+// Builds the value of the type that begins at `at`, its words from `o` on, and answers the place after it.
 #[cycle(building)]
 fn build<P: Pool>(
     pool: &mut P,
-    entries: &[Entry],
-    t: u8,
+    kind: Kind,
     bytes: &[u8],
     at: usize,
     words: &mut [u32; 16],
     o: usize,
 ) -> usize
-    requires listed { Listed entries.now }
-    requires known { t < length entries.now }
-    requires narrow { o + (entry_of entries.now t).width ≤ 16 }
+    requires narrow { o + wide kind ≤ 16 }
     ensures on { at ≤ result }
-    ensures builds { (ts : List Ty) → Types entries.now ts → Builds bytes.now (type_at ts t) at result (P.Pool.means pool.old) words.old o (P.Pool.means pool.new) words.new }
+    ensures builds { (A : Ty) → Is kind.entry A → Builds bytes.now A at result (P.Pool.means pool.old) words.old o (P.Pool.means pool.new) words.new }
 {
-    let entry = entry_at(entries, t);
     // the value's number or mark, where it has one
     let (number, end) = number_from(bytes, at);
-    match entry.form {
-        Form::Number => {
+    match kind.shape() {
+        Shape::Number => {
             words[o] = unzigzag(number).cast_unsigned();
             end
         }
-        Form::Diamond => {
+        Shape::Diamond => {
             words[o] = fresh(pool, &[0; 16]);
             at
         }
-        Form::List => {
+        Shape::List(element) => {
             if number == 0 {
                 words[o] = 0;
                 return end;
             }
             let mut cell = [0; 16];
-            let last = build_pair(pool, entries, entry.first, t, bytes, end, &mut cell, 0);
+            let last = build_pair(pool, element, kind, bytes, end, &mut cell, 0);
             words[o] = fresh(pool, &cell);
             last
         }
-        Form::Tree => {
+        Shape::Tree(label) => {
             words[o] = number;
-            let mid = build(pool, entries, entry.first, bytes, end, words, o + 1);
+            let mid = build(pool, label, bytes, end, words, o + 1);
             if number == 0 {
                 return mid;
             }
-            let place = o + 1 + width_at(entries, entry.first);
-            let (left, next) = build_cell(pool, entries, t, bytes, mid);
-            let (right, last) = build_cell(pool, entries, t, bytes, next);
+            let place = o + 1 + label.width();
+            let (left, next) = build_cell(pool, kind, bytes, mid);
+            let (right, last) = build_cell(pool, kind, bytes, next);
             set_two(words, place, left, right);
             last
         }
-        Form::Pair => build_pair(
-            pool,
-            entries,
-            entry.first,
-            entry.second,
-            bytes,
-            at,
-            words,
-            o,
-        ),
-        Form::Sum => {
-            let part = side(entry, number);
+        Shape::Pair(first, second) => build_pair(pool, first, second, bytes, at, words, o),
+        Shape::Sum(first, second) => {
+            let part = side(first, second, number);
             words[o] = number;
-            build(pool, entries, part, bytes, end, words, o + 1)
+            build(pool, part, bytes, end, words, o + 1)
         }
     }
 }
@@ -123,42 +109,29 @@ fn build<P: Pool>(
 #[cycle(building)]
 fn build_pair<P: Pool>(
     pool: &mut P,
-    entries: &[Entry],
-    first: u8,
-    second: u8,
+    first: Kind,
+    second: Kind,
     bytes: &[u8],
     at: usize,
     words: &mut [u32; 16],
     o: usize,
 ) -> usize
-    requires listed { Listed entries.now }
-    requires first { first < length entries.now }
-    requires second { second < length entries.now }
-    requires narrow { o + ((entry_of entries.now first).width + (entry_of entries.now second).width) ≤ 16 }
+    requires narrow { o + (wide first + wide second) ≤ 16 }
     ensures on { at ≤ result }
-    ensures builds { (ts : List Ty) → Types entries.now ts → Builds bytes.now (pair_of (type_at ts first) (type_at ts second)) at result (P.Pool.means pool.old) words.old o (P.Pool.means pool.new) words.new }
+    ensures builds { (A B : Ty) → Is first.entry A → Is second.entry B → Builds bytes.now (pair_of A B) at result (P.Pool.means pool.old) words.old o (P.Pool.means pool.new) words.new }
 {
-    let next = o + width_at(entries, first);
-    let mid = build(pool, entries, first, bytes, at, words, o);
-    build(pool, entries, second, bytes, mid, words, next)
+    let mid = build(pool, first, bytes, at, words, o);
+    build(pool, second, bytes, mid, words, o + first.width())
 }
 
-// Builds the value of the type `t` that begins at `at` in a cell of its own; answers the cell and the place after the value.
+// Builds the value of the type that begins at `at` in a cell of its own; answers the cell and the place after the value.
 #[cycle(building)]
-fn build_cell<P: Pool>(
-    pool: &mut P,
-    entries: &[Entry],
-    t: u8,
-    bytes: &[u8],
-    at: usize,
-) -> (u32, usize)
-    requires listed { Listed entries.now }
-    requires known { t < length entries.now }
+fn build_cell<P: Pool>(pool: &mut P, kind: Kind, bytes: &[u8], at: usize) -> (u32, usize)
     ensures on { at ≤ result.1 }
-    ensures boxes { (ts : List Ty) → Types entries.now ts → Boxes bytes.now (type_at ts t) at result (P.Pool.means pool.old) (P.Pool.means pool.new) }
+    ensures boxes { (A : Ty) → Is kind.entry A → Boxes bytes.now A at result (P.Pool.means pool.old) (P.Pool.means pool.new) }
 {
     let mut words = [0; 16];
-    let end = build(pool, entries, t, bytes, at, &mut words, 0);
+    let end = build(pool, kind, bytes, at, &mut words, 0);
     (fresh(pool, &words), end)
 }
 
@@ -185,6 +158,7 @@ pub fn put<P: Pool>(
     let most = allowance(pool, spare);
     let _ = scan(entries, t, bytes, most)?;
     let mut words = [0; 16];
-    let _ = build(pool, entries, t, bytes, 0, &mut words, 0);
+    let kind = Kind::new(entries, t);
+    let _ = build(pool, kind, bytes, 0, &mut words, 0);
     Ok(words)
 }

@@ -1,8 +1,7 @@
-ghost use Rattle.std.specs.Prelude.{◌≡◌, ℕ, ◌+◌, ◌<◌, ◌≤◌, List, [], ◌∷◌, length, take, slice_index, refl};
+ghost use Rattle.std.specs.Prelude.{◌≡◌, ℕ, ◌+◌, ◌<◌, ◌≤◌, List, [], ◌∷◌, length, take, refl};
 ghost use Rattle.std.proofs.Common.{◌∙◌};
 ghost use Rattle.lfpl.specs.Syntax.{Ty};
 ghost use Rattle.lfpl.specs.Typing.{type_at};
-ghost use Rattle.pool.specs.Pools.{Gives};
 ghost use Rattle.store.specs.Laws.{HoldsItsCharge};
 ghost use Rattle.store.specs.Layout.{occ, used};
 ghost use Rattle.store.specs.Releasing.{Released, Releases};
@@ -11,6 +10,7 @@ ghost use Rattle.store.specs.WalkLaws.{placed_joins, placed_none};
 ghost use Rattle.store.specs.Walking.{Placed, Walks};
 ghost use Rattle.tables.specs.Listed.{Types};
 
+use crate::entries::Kind;
 use crate::scan::MOST_CELLS;
 use crate::walk::{Sink, walk};
 use pool::Pool;
@@ -30,6 +30,7 @@ fn place_cell(cells: &mut [u32], at: usize, cell: u32) -> usize
     if at >= cells.len() {
         return at;
     }
+    // by its index: after a write through get_mut a proof knows the array's length and none of its cells
     cells[at] = cell;
     at + 1
 }
@@ -63,25 +64,18 @@ pub fn collect<P: Pool>(
     ensures cells { (ts : List Ty) → Types entries.now ts → Walks (P.Pool.means pool.now) (type_at ts t) words.now 0 512 (λ xs cs. Placed cells.old from cs cells.new result) }
     ensures charge { HoldsItsCharge }
 {
+    let kind = Kind::new(entries, t);
     let mut sink = CellList { cells, at: from };
-    walk(pool, entries, t, words, 0, MOST_CELLS as usize, &mut sink);
+    walk(pool, kind, words, 0, MOST_CELLS as usize, &mut sink);
     sink.at
-}
-
-// Gives the cell at a place of an array back; false where it is not taken.
-fn give_at<P: Pool>(pool: &mut P, cells: &[u32], k: usize) -> bool
-    requires { k < length cells.now }
-    ensures { Gives (P.Pool.means pool.old) (slice_index cells.now k) result (P.Pool.means pool.new) }
-{
-    pool.give(cells[k])
 }
 
 // Gives the first `count` cells of an array back.
 pub fn give_all<P: Pool>(pool: &mut P, cells: &[u32], count: usize)
     ensures { ((c : ℕ) → occ c (take count cells.now) ≤ used (P.Pool.means pool.old) c) → Released (P.Pool.means pool.old) (take count cells.now) (P.Pool.means pool.new) }
 {
-    for k in 0..count.min(cells.len()) {
-        let _ = give_at(pool, cells, k);
+    for cell in &cells[..count.min(cells.len())] {
+        let _ = pool.give(*cell);
     }
 }
 

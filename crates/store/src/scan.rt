@@ -1,5 +1,5 @@
 ghost use Rattle.std.specs.Prelude.{◌≡◌, ℕ, ◌+◌, ◌*◌, ◌<◌, ◌≤◌, min, true, List, ◌++◌, length, nat_lt};
-ghost use Rattle.codec.specs.Stack.{Sound, held, room};
+ghost use Rattle.codec.specs.Stack.{held, room};
 ghost use Rattle.lfpl.specs.Syntax.{Ty};
 ghost use Rattle.lfpl.specs.Typing.{type_at};
 ghost use Rattle.store.specs.Decoding.{decode, marked, spend as spent};
@@ -19,79 +19,86 @@ pub const MOST_CELLS: u32 = 512;
 // the pile's room: a value's types are at most 16 words wide together, and each cell that is counted brings at most 15 words more
 const ROOM: usize = 7696;
 
-// Counts cells that a value takes, or refuses where they are lacking.
-fn spend(cursor: &Cursor, cells: u32, place: usize, left: &mut u32) -> Result<(), Fault>
-    ensures { Counts (λ s bs p. spent cells place tt s p) cursor.now left.old result cursor.now left.new }
-{
-    if *left < cells {
-        return Err(cursor.fault(Refusal::CellsLacking, place));
-    }
-    *left -= cells;
-    Ok(())
+// a value's bytes as they are read, and how many cells are left for it
+#[derive(Drop)]
+struct Reader<'a> {
+    cursor: Cursor<'a>,
+    left: u32,
 }
 
-// A mark, and with a 1 its cells.
-fn open(cursor: &mut Cursor, cells: u32, left: &mut u32) -> Result<bool, Fault>
-    ensures { Counts (marked cells) cursor.old left.old result cursor.new left.new }
-{
-    let place = cursor.place();
-    let more = cursor.mark()?;
-    if more {
-        spend(cursor, cells, place, left)?;
+impl<'a> Reader<'a> {
+    // Counts cells that a value takes, or refuses where they are lacking.
+    fn spend(&mut self, cells: u32, place: usize) -> Result<(), Fault>
+        ensures { Counts (λ s bs p. spent cells place tt s p) self.old.cursor self.old.left result self.new.cursor self.new.left }
+    {
+        if self.left < cells {
+            return Err(self.cursor.fault(Refusal::CellsLacking, place));
+        }
+        self.left -= cells;
+        Ok(())
     }
-    Ok(more)
-}
 
-// The front of a value: its number or its mark, and its cells.
-fn front(form: Form, cursor: &mut Cursor, left: &mut u32) -> Result<bool, Fault>
-    ensures { Counts (front_at form) cursor.old left.old result cursor.new left.new }
-{
-    match form {
-        Form::Number => {
-            let _ = cursor.number()?;
-            Ok(false)
+    // A mark, and with a 1 its cells.
+    fn open(&mut self, cells: u32) -> Result<bool, Fault>
+        ensures { Counts (marked cells) self.old.cursor self.old.left result self.new.cursor self.new.left }
+    {
+        let place = self.cursor.place();
+        let more = self.cursor.mark()?;
+        if more {
+            self.spend(cells, place)?;
         }
-        Form::Diamond => {
-            let place = cursor.place();
-            spend(cursor, 1, place, left)?;
-            Ok(false)
+        Ok(more)
+    }
+
+    // The front of a value: its number or its mark, and its cells.
+    fn front(&mut self, form: Form) -> Result<bool, Fault>
+        ensures { Counts (front_at form) self.old.cursor self.old.left result self.new.cursor self.new.left }
+    {
+        match form {
+            Form::Number => {
+                let _ = self.cursor.number()?;
+                Ok(false)
+            }
+            Form::Diamond => {
+                let place = self.cursor.place();
+                self.spend(1, place)?;
+                Ok(false)
+            }
+            Form::List(_) => self.open(1),
+            Form::Tree(_) => self.open(2),
+            Form::Pair(_, _) => Ok(false),
+            Form::Sum(_, _) => self.open(0),
         }
-        Form::List => open(cursor, 1, left),
-        Form::Tree => open(cursor, 2, left),
-        Form::Pair => Ok(false),
-        Form::Sum => open(cursor, 0, left),
     }
 }
 
 // Stacks the types of what a value has after its front, the next one on top.
-fn stack(pile: &mut Pile<u8>, entry: Entry, t: u8, more: bool)
-    requires { Sound pile.old }
-    ensures held { length (parts entry.form more t entry.first entry.second ++ held pile.old) ≤ room pile.old → held pile.new ≡ parts entry.form more t entry.first entry.second ++ held pile.old }
-    ensures sound { Sound pile.new }
+fn stack(pile: &mut Pile<u8>, form: Form, t: u8, more: bool)
+    ensures held { length (parts form more t ++ held pile.old) ≤ room pile.old → held pile.new ≡ parts form more t ++ held pile.old }
     ensures room { room pile.new ≡ room pile.old }
     ensures same { pile.new.slots.ghost_name ≡ pile.old.slots.ghost_name }
 {
-    match entry.form {
+    match form {
         Form::Number | Form::Diamond => (),
-        Form::List => {
+        Form::List(element) => {
             if more {
                 let _ = pile.push(t);
-                let _ = pile.push(entry.first);
+                let _ = pile.push(element);
             }
         }
-        Form::Tree => {
+        Form::Tree(label) => {
             if more {
                 let _ = pile.push(t);
                 let _ = pile.push(t);
             }
-            let _ = pile.push(entry.first);
+            let _ = pile.push(label);
         }
-        Form::Pair => {
-            let _ = pile.push(entry.second);
-            let _ = pile.push(entry.first);
+        Form::Pair(first, second) => {
+            let _ = pile.push(second);
+            let _ = pile.push(first);
         }
-        Form::Sum => {
-            let part = if more { entry.second } else { entry.first };
+        Form::Sum(first, second) => {
+            let part = if more { second } else { first };
             let _ = pile.push(part);
         }
     }
@@ -115,17 +122,19 @@ pub fn scan(entries: &[Entry], t: u8, bytes: &[u8], spare: u32) -> Result<u32, F
     let most = spare.min(MOST_CELLS);
     let mut slots = [0u8; ROOM];
     let mut pile = Pile::new(&mut slots);
-    let mut cursor = Cursor::new(bytes, Part::Value);
-    let mut left = most;
+    let mut reader = Reader {
+        cursor: Cursor::new(bytes, Part::Value),
+        left: most,
+    };
     let _ = pile.push(t);
     while let Some(next) = pile.pop() {
         let entry = entry_at(entries, next);
-        let more = front(entry.form, &mut cursor, &mut left)?;
-        stack(&mut pile, entry, next, more);
+        let more = reader.front(entry.form)?;
+        stack(&mut pile, entry.form, next, more);
     }
-    let place = cursor.place();
+    let place = reader.cursor.place();
     if over(place, bytes.len()) {
-        return Err(cursor.fault(Refusal::BytesOver, place));
+        return Err(reader.cursor.fault(Refusal::BytesOver, place));
     }
-    Ok(most - left)
+    Ok(most - reader.left)
 }

@@ -8,6 +8,7 @@ ghost use Rattle.store.specs.WalkLaws.{counted_joins, counted_none, placed_joins
 ghost use Rattle.store.specs.Walking.{Counted, Placed, Walks, Written};
 ghost use Rattle.tables.specs.Listed.{Types};
 
+use crate::entries::Kind;
 use crate::scan::MOST_CELLS;
 use crate::walk::{Sink, walk};
 use codec::writer::{write_number, written_len};
@@ -79,14 +80,15 @@ pub fn show<P: Pool>(
     ensures again { ReadsBack }
     ensures one { OneValue }
 {
+    let kind = Kind::new(entries, t);
     let most = MOST_CELLS as usize;
     let mut counter = Counter { count: 0 };
-    walk(pool, entries, t, words, 0, most, &mut counter);
+    walk(pool, kind, words, 0, most, &mut counter);
     let count = counter.count;
     if too_short(area.len(), count) {
         return None;
     }
     let mut sink = Area { out: area, at: 0 };
-    walk(pool, entries, t, words, 0, most, &mut sink);
+    walk(pool, kind, words, 0, most, &mut sink);
     Some(count)
 }

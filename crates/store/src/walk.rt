@@ -2,17 +2,14 @@ ghost use Rattle.std.specs.Prelude.{◌≡◌, ℕ, ◌+◌, ◌<◌, ◌≤◌,
 ghost use Rattle.std.specs.Option.{unwrap_or};
 ghost use Rattle.codec.specs.Number.{written};
 ghost use Rattle.lfpl.specs.Syntax.{Ty, pair_of};
-ghost use Rattle.lfpl.specs.Typing.{type_at};
 ghost use Rattle.pool.specs.Pools.{word_at};
+ghost use Rattle.store.specs.Kinds.{Is, wide};
 ghost use Rattle.store.specs.Layout.{used, words_of};
-ghost use Rattle.store.specs.Scanning.{Listed};
 ghost use Rattle.store.specs.Walking.{Walks, WalksCell};
-ghost use Rattle.tables.specs.Listed.{Types, entry_of};
 
-use crate::entries::{entry_at, side, width_at};
+use crate::entries::{Kind, Shape, side};
 use codec::integer::zigzag;
 use pool::Pool;
-use tables::listing::{Entry, Form};
 
 // what a walk through a value hands on: the numbers that its bytes spell, and the cells that it holds
 pub trait Sink {
@@ -46,34 +43,30 @@ fn load<P: Pool>(pool: &P, cell: u32) -> [u32; 16]
     ensures { used (P.Pool.means pool.now) cell ≡ 1 → result ≡ words_of (P.Pool.means pool.now) cell }
 {
     let mut words = [0; 16];
-    for k in 0..16usize {
-        words[k] = word_of(pool, cell, k);
+    for (k, word) in words.iter_mut().enumerate() {
+        *word = word_of(pool, cell, k);
     }
     words
 }
 
-// Hands the value of the type `t` in the words from `o` on to the sink. It has at most `left` cells: whatever the words are, the walk ends.
+// Hands the value of the type in the words from `o` on to the sink. It has at most `left` cells: whatever the words are, the walk ends.
 #[cycle(walking)]
 pub fn walk<P: Pool, S: Sink>(
     pool: &P,
-    entries: &[Entry],
-    t: u8,
+    kind: Kind,
     words: &[u32; 16],
     o: usize,
     left: usize,
     sink: &mut S,
 )
-    requires listed { Listed entries.now }
-    requires known { t < length entries.now }
-    requires narrow { o + (entry_of entries.now t).width ≤ 16 }
-    ensures { (ts : List Ty) → Types entries.now ts → Walks (P.Pool.means pool.now) (type_at ts t) words.now o left (λ xs cs. S.Sink.takes sink.old xs cs sink.new) }
+    requires narrow { o + wide kind ≤ 16 }
+    ensures { (A : Ty) → Is kind.entry A → Walks (P.Pool.means pool.now) A words.now o left (λ xs cs. S.Sink.takes sink.old xs cs sink.new) }
 {
-    let entry = entry_at(entries, t);
     let word = words[o];
-    match entry.form {
-        Form::Number => sink.number(zigzag(word.cast_signed())),
-        Form::Diamond => sink.cell(word),
-        Form::List => {
+    match kind.shape() {
+        Shape::Number => sink.number(zigzag(word.cast_signed())),
+        Shape::Diamond => sink.cell(word),
+        Shape::List(element) => {
             if word == 0 {
                 sink.number(0);
                 return;
@@ -84,32 +77,23 @@ pub fn walk<P: Pool, S: Sink>(
             sink.number(1);
             sink.cell(word);
             let cell = load(pool, word);
-            walk_pair(pool, entries, entry.first, t, &cell, 0, left - 1, sink)
+            walk_pair(pool, element, kind, &cell, 0, left - 1, sink)
         }
-        Form::Tree => {
+        Shape::Tree(label) => {
             sink.number(word);
-            walk(pool, entries, entry.first, words, o + 1, left, sink);
+            walk(pool, label, words, o + 1, left, sink);
             if word == 0 {
                 return;
             }
-            let at = o + 1 + width_at(entries, entry.first);
-            walk_cell(pool, entries, t, words[at], left, sink);
-            walk_cell(pool, entries, t, words[at + 1], left, sink)
+            let at = o + 1 + label.width();
+            walk_cell(pool, kind, words[at], left, sink);
+            walk_cell(pool, kind, words[at + 1], left, sink)
         }
-        Form::Pair => walk_pair(
-            pool,
-            entries,
-            entry.first,
-            entry.second,
-            words,
-            o,
-            left,
-            sink,
-        ),
-        Form::Sum => {
-            let part = side(entry, word);
+        Shape::Pair(first, second) => walk_pair(pool, first, second, words, o, left, sink),
+        Shape::Sum(first, second) => {
+            let part = side(first, second, word);
             sink.number(word);
-            walk(pool, entries, part, words, o + 1, left, sink)
+            walk(pool, part, words, o + 1, left, sink)
         }
     }
 }
@@ -118,43 +102,29 @@ pub fn walk<P: Pool, S: Sink>(
 #[cycle(walking)]
 fn walk_pair<P: Pool, S: Sink>(
     pool: &P,
-    entries: &[Entry],
-    first: u8,
-    second: u8,
+    first: Kind,
+    second: Kind,
     words: &[u32; 16],
     o: usize,
     left: usize,
     sink: &mut S,
 )
-    requires listed { Listed entries.now }
-    requires first { first < length entries.now }
-    requires second { second < length entries.now }
-    requires narrow { o + ((entry_of entries.now first).width + (entry_of entries.now second).width) ≤ 16 }
-    ensures { (ts : List Ty) → Types entries.now ts → Walks (P.Pool.means pool.now) (pair_of (type_at ts first) (type_at ts second)) words.now o left (λ xs cs. S.Sink.takes sink.old xs cs sink.new) }
+    requires narrow { o + (wide first + wide second) ≤ 16 }
+    ensures { (A B : Ty) → Is first.entry A → Is second.entry B → Walks (P.Pool.means pool.now) (pair_of A B) words.now o left (λ xs cs. S.Sink.takes sink.old xs cs sink.new) }
 {
-    let next = o + width_at(entries, first);
-    walk(pool, entries, first, words, o, left, sink);
-    walk(pool, entries, second, words, next, left, sink)
+    walk(pool, first, words, o, left, sink);
+    walk(pool, second, words, o + first.width(), left, sink)
 }
 
-// Hands a cell and the value of the type `t` that it holds.
+// Hands a cell and the value of the type that it holds.
 #[cycle(walking)]
-fn walk_cell<P: Pool, S: Sink>(
-    pool: &P,
-    entries: &[Entry],
-    t: u8,
-    cell: u32,
-    left: usize,
-    sink: &mut S,
-)
-    requires listed { Listed entries.now }
-    requires known { t < length entries.now }
-    ensures { (ts : List Ty) → Types entries.now ts → WalksCell (P.Pool.means pool.now) (type_at ts t) cell left (λ xs cs. S.Sink.takes sink.old xs cs sink.new) }
+fn walk_cell<P: Pool, S: Sink>(pool: &P, kind: Kind, cell: u32, left: usize, sink: &mut S)
+    ensures { (A : Ty) → Is kind.entry A → WalksCell (P.Pool.means pool.now) A cell left (λ xs cs. S.Sink.takes sink.old xs cs sink.new) }
 {
     if left == 0 {
         return;
     }
     sink.cell(cell);
     let words = load(pool, cell);
-    walk(pool, entries, t, &words, 0, left - 1, sink)
+    walk(pool, kind, &words, 0, left - 1, sink)
 }

@@ -1,18 +1,17 @@
 -- The steps of reading expressions.
-use Rattle.std.proofs.Common.{◌≡◌, ℕ, zero, suc, ◌+◌, ◌-◌, ◌<◌, ◌≤◌, Bool, true, false, cond, ltb, leb, ◌⊎◌, List, [], ◌∷◌, ◌++◌, map, length, get_or, drop, replicate, IfOk, Some, None, Ok, Err, Option, Result, sym, refl, ap, ◌∙◌, subst, ap₂, inl, inr, arith}
+use Rattle.std.proofs.Common.{◌≡◌, ℕ, zero, suc, ◌+◌, ◌-◌, ◌<◌, ◌≤◌, Bool, true, false, cond, ltb, leb, List, [], ◌∷◌, ◌++◌, map, length, get_or, drop, take, replicate, reverse, Bor, IfOk, Ok, Err, Result, sym, refl, ap, ◌∙◌, subst, ap₂, arith}
 use lib.ListN.{length-map}
-use Rattle.std.proofs.lemmas.List.{drop_more, drop_all, get_or-map, get_or_past, get_or-take, get_or_append_left}
-use Rattle.std.proofs.lemmas.Bool.{cases_lt, lt-ltb, le-ltb, le-leb, lt-leb}
+use Rattle.std.proofs.lemmas.List.{get_or-reverse, length-reverse, map-append, reverse-append, take_all}
+use Rattle.std.proofs.lemmas.Bool.{lt-ltb, le-ltb, le-leb, lt-leb}
 use Rattle.codec.specs.Reading.{Scan, done, refused, then as followed, within_at, Takes}
 use Rattle.codec.specs.declared.cursor.Cursor.{Cursor}
 use Rattle.codec.specs.declared.fault.Fault.{Fault}
-use Rattle.codec.specs.declared.fault.Refusal.{Refusal}
 use Rattle.codec.specs.declared.fault.Refusal.TheVariants.{TooManyExpressions, TooManyVariables}
-use Rattle.codec.proofs.Takings.{takes_as, takes_done}
+use Rattle.codec.proofs.Takings.{takes_as, takes_done, takes_fault}
 use Rattle.lfpl.specs.Syntax.{Ty, Head, guard}
 use Rattle.lfpl.specs.Reading.{Reader, ◌>>=◌, pure, below, demand, Names, shape, heads, head_at}
 use Rattle.lfpl.specs.Typing.{type_at}
-use Rattle.tables.specs.Inner.{Few, Gives, operand_of, arms_of, shape_of, Named, operand_at, Ranges, kind_at, Begins, hindered, inner, to_come, waiting}
+use Rattle.tables.specs.Inner.{Few, Gives, operand_of, arms_of, Named, operand_at, Ranges, kind_at, Begins, inner, to_come, waiting}
 use Rattle.tables.specs.Listed.{head_by, head_of, InRange}
 use Rattle.tables.specs.declared.expressions.Open.{Open}
 use Rattle.tables.specs.declared.expressions.Operand as O
@@ -21,7 +20,7 @@ use Rattle.tables.specs.declared.listing.Kind as K
 use Rattle.tables.specs.declared.listing.Kind.TheVariants as Kind
 use Rattle.tables.specs.declared.listing.Node.{Node}
 use Rattle.tables.specs.declared.listing.Signature.{Signature}
-use Rattle.tables.proofs.Givings.{then_assoc, on, break}
+use Rattle.tables.proofs.Givings.{then_assoc, on, break, gives_as}
 
 -- ---- the number of an expression
 
@@ -59,22 +58,7 @@ module _ (ns : Names) (scope : ℕ) (bs : List ℕ) (p : ℕ) where
   heads_are (suc (suc (suc (suc (suc (suc (suc (suc (suc (suc (suc (suc (suc (suc (suc (suc k)))))))))))))))) h = absurd (omega arith)
 
 ranges_in_range : (k : K.Kind) (ns : Names) (scope v : ℕ) → Ranges ns scope (operand_of k) v → InRange k ns scope v
-ranges_in_range Kind.Variable ns scope v h = h
-ranges_in_range Kind.Call ns scope v h = h
-ranges_in_range Kind.Constant ns scope v h = h
-ranges_in_range Kind.Infix ns scope v h = h
-ranges_in_range Kind.Guard ns scope v h = h
-ranges_in_range Kind.MakePair ns scope v h = h
-ranges_in_range Kind.SplitPair ns scope v h = h
-ranges_in_range Kind.MakeLeft ns scope v h = h
-ranges_in_range Kind.MakeRight ns scope v h = h
-ranges_in_range Kind.CaseSum ns scope v h = h
-ranges_in_range Kind.EmptyList ns scope v h = h
-ranges_in_range Kind.MakeCons ns scope v h = h
-ranges_in_range Kind.CaseList ns scope v h = h
-ranges_in_range Kind.MakeLeaf ns scope v h = h
-ranges_in_range Kind.MakeNode ns scope v h = h
-ranges_in_range Kind.CaseTree ns scope v h = h
+ranges_in_range k ns scope v h = grind arith
 
 module _ (ns : Names) (scope k : ℕ) (o : O.Operand) {c c₁ : Cursor} (t : Takes (within_at 0 16) c (Ok k) c₁) (h : k < 16) (d : o ≡ operand_of (kind_numbered k)) where
   after_kind : (c₂ : Cursor) (r : Result Head Fault) → Takes (operand_at ns scope o >>= numbered ns (kind_numbered k)) c₁ r c₂ → Takes (kind_at ns scope) c r c₂
@@ -114,37 +98,18 @@ module _ (ns : Names) (left scope : ℕ) (bs : List ℕ) (p : ℕ) where
   begin_crowded : scope ≤ 32 → left ≡ 0 → head_at ns left scope bs p ≡ refused TooManyExpressions p
   begin_crowded h e = begin_is true false (le-leb scope 32 h) (le-ltb 0 left (omega arith))
 
-  pub begin_node : scope ≤ 32 → 0 < left → head_at ns left scope bs p ≡ kind_at ns scope bs p
+  begin_node : scope ≤ 32 → 0 < left → head_at ns left scope bs p ≡ kind_at ns scope bs p
   begin_node h e = begin_is true true (le-leb scope 32 h) (lt-ltb 0 left e)
 
--- what hinders an expression that begins after `count` others in a scope of so many variables
-tested : (scope count : ℕ) (a b : Bool) → ltb 32 scope ≡ a → leb 512 count ≡ b → hindered scope count ≡ cond a (Some TooManyVariables) (cond b (Some TooManyExpressions) None)
-tested scope count a b d e = ap₂ (λ a b. cond a (Some TooManyVariables) (cond b (Some TooManyExpressions) None)) d e
+pub begins_wide : (ns : Names) (scope left : ℕ) (c : Cursor) (f : Fault) → 32 < scope → f ≡ record { refusal = TooManyVariables; place = c.at; part = c.part } → Takes (head_at ns left scope) c (Err f) c
+begins_wide ns scope left c f h e = takes_fault (head_at ns left scope) c f TooManyVariables c.at (begin_scope ns left scope c.bytes.now c.at h) e
 
-pub begin_hindered : (ns : Names) (scope count : ℕ) (bs : List ℕ) (p : ℕ) (why : Refusal) → Some why ≡ hindered scope count → head_at ns (512 - count) scope bs p ≡ refused why p
-begin_hindered ns scope count bs p why e = go (cases_lt 32 scope) (cases_lt count 512)
-  where
-    same : (v : Refusal) → ◌≡◌ {A = Option Refusal} (Some why) (Some v) → ◌≡◌ {A = Scan Head} (refused v p) (refused why p)
-    same v e = cc
+pub begins_crowded : (ns : Names) (scope count : ℕ) (c : Cursor) (f : Fault) → scope ≤ 32 → 512 ≤ count → f ≡ record { refusal = TooManyExpressions; place = c.at; part = c.part }
+    → Takes (head_at ns (512 - count) scope) c (Err f) c
+begins_crowded ns scope count c f h l e = takes_fault (head_at ns (512 - count) scope) c f TooManyExpressions c.at (begin_crowded ns (512 - count) scope c.bytes.now c.at h (omega arith)) e
 
-    never : ◌≡◌ {A = Option Refusal} (Some why) None → ⊥
-    never e = let z : ◌≡◌ {A = ℕ} 0 1 = cc in omega arith
-
-    go : (32 < scope) ⊎ (scope ≤ 32) → (count < 512) ⊎ (512 ≤ count) → head_at ns (512 - count) scope bs p ≡ refused why p
-    go (inl h) l = begin_scope ns (512 - count) scope bs p h ∙ same TooManyVariables (e ∙ tested scope count true (leb 512 count) (lt-ltb 32 scope h) refl)
-    go (inr h) (inl l) = absurd (never (e ∙ tested scope count false false (le-ltb 32 scope h) (lt-leb 512 count l)))
-    go (inr h) (inr l) = begin_crowded ns (512 - count) scope bs p h (omega arith) ∙ same TooManyExpressions (e ∙ tested scope count false true (le-ltb 32 scope h) (le-leb 512 count l))
-
-pub unhindered : (scope count : ℕ) → None ≡ hindered scope count → (scope ≤ 32) × (count < 512)
-unhindered scope count e = go (cases_lt 32 scope) (cases_lt count 512)
-  where
-    never : (v : Refusal) → ◌≡◌ {A = Option Refusal} None (Some v) → ⊥
-    never v e = let z : ◌≡◌ {A = ℕ} 0 1 = cc in omega arith
-
-    go : (32 < scope) ⊎ (scope ≤ 32) → (count < 512) ⊎ (512 ≤ count) → (scope ≤ 32) × (count < 512)
-    go (inl h) l = absurd (never TooManyVariables (e ∙ tested scope count true (leb 512 count) (lt-ltb 32 scope h) refl))
-    go (inr h) (inl l) = (h, l)
-    go (inr h) (inr l) = absurd (never TooManyExpressions (e ∙ tested scope count false true (le-ltb 32 scope h) (le-leb 512 count l)))
+pub begins_on : (ns : Names) (scope count : ℕ) (c c' : Cursor) (r : Result Node Fault) → scope ≤ 32 → count < 512 → Gives (kind_at ns scope) (Begins ns scope) c r c' → Gives (head_at ns (512 - count) scope) (Begins ns scope) c r c'
+begins_on ns scope count c c' r h l g = gives_as (kind_at ns scope) (head_at ns (512 - count) scope) (Begins ns scope) c c' r (λ bs p. begin_node ns (512 - count) scope bs p h (omega arith)) g
 
 -- where no expression is allowed, none begins
 pub never_begins : {Y : Type 0} (ns : Names) (n : ℕ) (bs : List ℕ) (p : ℕ) (f g : Head → ℕ → Scan Y) → followed (head_at ns 0 n bs p) f ≡ followed (head_at ns 0 n bs p) g
@@ -159,82 +124,49 @@ never_begins ns n bs p f g = ap (λ s. followed s f) z ∙ go (leb n 32) ∙ sym
 
 -- ---- shapes
 
-pub arity_within : (fs : List Signature) (i : ℕ) (d : Signature) → i < length fs → (get_or fs i d).arity ≡ get_or (map (λ (f : Signature). f.arity) fs) i 0
-arity_within fs i d h = sym (get_or-map (λ (f : Signature). f.arity) fs i d 0 h)
-
-pub arity_past : (fs : List Signature) (i : ℕ) → length fs ≤ i → 0 ≡ get_or (map (λ (f : Signature). f.arity) fs) i 0
-arity_past fs i h = sym (get_or_past (map (λ (f : Signature). f.arity) fs) i 0 (omega (arith, length-map fs (λ (f : Signature). f.arity))))
-
 -- what the arms bind depends on the kind alone
 arms_are : (k : K.Kind) (arities : List ℕ) (ts : List Ty) (v : ℕ) → (shape arities (head_by k ts v)).arms ≡ arms_of k
-arms_are Kind.Variable arities ts v = refl
-arms_are Kind.Call arities ts v = refl
-arms_are Kind.Constant arities ts v = refl
-arms_are Kind.Infix arities ts v = refl
-arms_are Kind.Guard arities ts v = refl
-arms_are Kind.MakePair arities ts v = refl
-arms_are Kind.SplitPair arities ts v = refl
-arms_are Kind.MakeLeft arities ts v = refl
-arms_are Kind.MakeRight arities ts v = refl
-arms_are Kind.CaseSum arities ts v = refl
-arms_are Kind.EmptyList arities ts v = refl
-arms_are Kind.MakeCons arities ts v = refl
-arms_are Kind.CaseList arities ts v = refl
-arms_are Kind.MakeLeaf arities ts v = refl
-arms_are Kind.MakeNode arities ts v = refl
-arms_are Kind.CaseTree arities ts v = refl
-
--- an arm of a kind that has it, by the description
-pub few_arms : (k : K.Kind) → length (arms_of k) ≤ 2
-few_arms Kind.Variable = omega arith
-few_arms Kind.Call = omega arith
-few_arms Kind.Constant = omega arith
-few_arms Kind.Infix = omega arith
-few_arms Kind.Guard = omega arith
-few_arms Kind.MakePair = omega arith
-few_arms Kind.SplitPair = omega arith
-few_arms Kind.MakeLeft = omega arith
-few_arms Kind.MakeRight = omega arith
-few_arms Kind.CaseSum = omega arith
-few_arms Kind.EmptyList = omega arith
-few_arms Kind.MakeCons = omega arith
-few_arms Kind.CaseList = omega arith
-few_arms Kind.MakeLeaf = omega arith
-few_arms Kind.MakeNode = omega arith
-few_arms Kind.CaseTree = omega arith
+arms_are k arities ts v = grind arith
 
 -- ---- what is to come
 
-pub opens : (arities : List ℕ) (ts : List Ty) (x : Node) (scope n : ℕ) → n ≡ (shape arities (head_of ts x)).parts
-    → to_come (record { scope = scope; parts = n; kind = x.kind; arm = 0 }) ≡ inner arities (head_of ts x) scope
+pub opens : (arities : List ℕ) (ts : List Ty) (x : Node) (o : Open) → o.parts ≡ (shape arities (head_of ts x)).parts → o.arms.now ≡ arms_of x.kind → to_come o ≡ inner arities (head_of ts x) o.scope
 unfolding to_come
-opens arities ts x scope n e = ap₂ (λ n l. replicate n scope ++ map (λ b. scope + b) l) e (sym (arms_are x.kind arities ts x.number))
+opens arities ts x o e a = ap₂ (λ n l. replicate n o.scope ++ map (λ b. o.scope + b) l) e (a ∙ sym (arms_are x.kind arities ts x.number))
 
-pub next_part : (s n : ℕ) (k : K.Kind) (a m : ℕ) → n ≡ suc m → to_come (record { scope = s; parts = n; kind = k; arm = a }) ≡ s ∷ to_come (record { scope = s; parts = m; kind = k; arm = a })
+pub next_part : (o p : Open) → p.scope ≡ o.scope → p.arms.now ≡ o.arms.now → o.parts ≡ p.parts + 1 → to_come o ≡ o.scope ∷ to_come p
 unfolding to_come
-next_part s n k a m e = ap (λ n. replicate n s ++ map (λ b. s + b) (drop a (arms_of k))) e
+next_part o p s a e =
+    let z : o.parts ≡ suc p.parts = omega arith in
+    ap (λ n. replicate n o.scope ++ map (λ b. o.scope + b) o.arms.now) z ∙ ap₂ (λ s l. o.scope ∷ replicate p.parts s ++ map (λ b. s + b) l) (sym s) (sym a)
 
--- the next arm of a kind that has it, by the description
-pub next_arm : (s n : ℕ) (k : K.Kind) (a v : ℕ) → n ≡ 0 → a < length (arms_of k) → v ≡ get_or (shape_of k).binds a 0
-    → to_come (record { scope = s; parts = n; kind = k; arm = a }) ≡ (s + v) ∷ to_come (record { scope = s; parts = 0; kind = k; arm = a + 1 })
+-- the code takes the arms apart as the first and those after it
+first_and_rest : (l : List ℕ) → 1 ≤ length l → l ≡ get_or l 0 0 ∷ take (length l - 1) (drop 1 l)
+first_and_rest [] h = absurd (omega arith)
+first_and_rest (b ∷ l) h = ap (λ l. b ∷ l) (sym (take_all (suc (length l) - 1) l (omega arith)))
+
+pub next_arm : (o p : Open) → p.scope ≡ o.scope → p.parts ≡ o.parts → o.parts ≤ 0 → 1 ≤ length o.arms.now → p.arms.now ≡ take (length o.arms.now - 1) (drop 1 o.arms.now)
+    → to_come o ≡ (o.scope + get_or o.arms.now 0 0) ∷ to_come p
 unfolding to_come
-next_arm s n k a v e l f =
-    ap (λ n. replicate n s ++ map (λ b. s + b) (drop a (arms_of k))) e ∙ ap (map (λ b. s + b)) (drop_more (arms_of k) a 0 l)
-    ∙ ap (λ w. (s + w) ∷ map (λ b. s + b) (drop (a + 1) (arms_of k))) (sym (f ∙ binds_are))
+next_arm o p s e d h a =
+    let z : o.parts ≡ 0 = omega arith in
+    let y : 0 ≡ p.parts = omega arith in
+    ap₂ (λ n l. replicate n o.scope ++ map (λ b. o.scope + b) l) z (first_and_rest o.arms.now h ∙ ap (λ l. get_or o.arms.now 0 0 ∷ l) (sym a))
+    ∙ ap₂ (λ n s. (o.scope + get_or o.arms.now 0 0) ∷ replicate n s ++ map (λ b. s + b) p.arms.now) y (sym s)
+
+pub next_none : (o : Open) → o.parts ≤ 0 → length o.arms.now < 1 → to_come o ≡ []
+unfolding to_come
+next_none o e h =
+    let z : o.parts ≡ 0 = omega arith in
+    ap₂ (λ n l. replicate n o.scope ++ map (λ b. o.scope + b) l) z (none o.arms.now h)
   where
-    two : a < 2
-    two = omega (arith, few_arms k)
+    none : (l : List ℕ) → length l < 1 → l ≡ []
+    none [] h = refl
+    none (b ∷ l) h = absurd (omega arith)
 
-    binds_are : get_or (shape_of k).binds a 0 ≡ get_or (arms_of k) a 0
-    binds_are = get_or-take 2 (arms_of k ++ 0 ∷ 0 ∷ []) a 0 two ∙ get_or_append_left (arms_of k) (0 ∷ 0 ∷ []) 0 a l
-
-pub next_none : (s n : ℕ) (k : K.Kind) (a : ℕ) → n ≡ 0 → length (arms_of k) ≤ a → to_come (record { scope = s; parts = n; kind = k; arm = a }) ≡ []
+pub body_comes : (o : Open) → o.parts ≡ 1 → o.arms.now ≡ [] → to_come o ≡ o.scope ∷ []
 unfolding to_come
-next_none s n k a e l = ap (λ n. replicate n s ++ map (λ b. s + b) (drop a (arms_of k))) e ∙ ap (map (λ b. s + b)) (drop_all a (arms_of k) l)
-
-pub body_comes : (n : ℕ) → to_come (record { scope = n; parts = 1; kind = Kind.Variable; arm = 0 }) ≡ n ∷ []
-unfolding to_come
-body_comes n = refl
+body_comes o e a = ap₂ (λ n l. replicate n o.scope ++ map (λ b. o.scope + b) l) e a
 
 pub waiting_more : (o : Open) (os : List Open) → waiting (o ∷ os) ≡ to_come o ++ waiting os
 unfolding waiting
@@ -258,24 +190,30 @@ function_read ns n fs scope what c c' r k e t b =
 
 -- ---- the pile
 
-pub few_at : (fs : List Signature) (i : ℕ) (d : Signature) → Few fs → i < length fs → (get_or fs i d).arity ≤ 6
+few_at : (fs : List Signature) (i : ℕ) (d : Signature) → Few fs → i < length fs → (get_or fs i d).arity ≤ 6
 few_at [] i d s h = absurd (omega arith)
 few_at (g ∷ fs) zero d s h = s.0
 few_at (g ∷ fs) (suc i) d s h = few_at fs i d s.1 (omega arith)
+
+-- a function that is met at i from the last on
+pub few_met : (fs : List Signature) (i : ℕ) (f : Signature) → Few fs → (i < length (reverse fs)) × (f ≡ get_or (reverse fs) i f) → f.arity ≤ 6
+few_met fs i f s t =
+    let h : i < length fs = omega (arith, t.0, length-reverse fs) in
+    let e : f ≡ get_or fs (length fs - 1 - i) f = t.1 ∙ get_or-reverse fs i f h in
+    subst (λ (g : Signature). g.arity ≤ 6) (sym e) (few_at fs (length fs - 1 - i) f s (omega arith))
 
 -- what is pushed where there is room
 pub pushed_one : (os h : List Open) (x : Open) (n : ℕ) (r : Bool) → r ≡ ltb (length os) n → h ≡ cond r (x ∷ os) os → length os < n → h ≡ x ∷ os
 pushed_one os h x n r f e l = e ∙ ap (λ b. cond b (x ∷ os) os) (f ∙ lt-ltb (length os) n l)
 
--- the body before those that are piled up
-pub body_before : (fs : List Signature) (i : ℕ) (d : Signature) (o : Open) (os held : List Open) → 0 < i → i ≤ length fs → held ≡ o ∷ os → to_come o ≡ (get_or fs (i - 1) d).arity ∷ []
-    → waiting os ≡ drop i (map (λ (f : Signature). f.arity) fs) → waiting held ≡ drop (i - 1) (map (λ (f : Signature). f.arity) fs)
-body_before fs i d o os held a b e t w =
-    let l = length-map fs (λ (f : Signature). f.arity) in
-    let z : i ≡ i - 1 + 1 = omega arith in
-    ap waiting e ∙ waiting_more o os ∙ ap₂ (λ (x y : List ℕ). x ++ y) t (w ∙ ap (λ i. drop i (map (λ (f : Signature). f.arity) fs)) z)
-    ∙ ap (λ n. n ∷ drop (i - 1 + 1) (map (λ (f : Signature). f.arity) fs)) (arity_within fs (i - 1) d (omega arith))
-    ∙ sym (drop_more (map (λ (f : Signature). f.arity) fs) (i - 1) 0 (omega (arith, l)))
+-- the body on top of those that are piled up
+pub body_before : (met : List (Bor Signature)) (f : Bor Signature) (o : Open) (os held : List Open) → held ≡ o ∷ os → to_come o ≡ f.now.arity ∷ []
+    → waiting os ≡ map (λ (f : Signature). f.arity) (reverse (map (λ (f : Bor Signature). f.now) met))
+    → waiting held ≡ map (λ (f : Signature). f.arity) (reverse (map (λ (f : Bor Signature). f.now) (met ++ f ∷ [])))
+body_before met f o os held e t w =
+    ap waiting e ∙ waiting_more o os ∙ ap₂ (λ (x y : List ℕ). x ++ y) t w
+    ∙ ap (map (λ (f : Signature). f.arity))
+    (sym (ap reverse (map-append (λ (f : Bor Signature). f.now) met (f ∷ [])) ∙ reverse-append (map (λ (f : Bor Signature). f.now) met) (f.now ∷ [])))
 
 -- what waits after the next expression
 pub comes_next : (held : List Open) (o rest : Open) (os : List Open) (n : ℕ) → held ≡ o ∷ os → to_come o ≡ n ∷ to_come rest → waiting held ≡ n ∷ waiting (rest ∷ os)

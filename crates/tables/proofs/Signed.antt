@@ -1,30 +1,21 @@
 -- The steps of reading signatures.
-use Rattle.std.proofs.Common.{◌≡◌, ℕ, ◌+◌, ◌<◌, ◌≤◌, List, [], ◌∷◌, ◌++◌, map, length, take, set, Ok, Err, sym, refl, ap, ◌∙◌, subst, ap₂, arith, length-take}
+use Rattle.std.proofs.Common.{◌≡◌, ℕ, ◌+◌, ◌<◌, ◌≤◌, List, [], ◌∷◌, ◌++◌, map, length, take, set, sym, refl, ap, ◌∙◌, subst, ap₂, arith, length-take}
 use lib.ListN.{length-map}
 use Rattle.std.proofs.lemmas.List.{take_more_set}
-use Rattle.codec.specs.Reading.{Scan, then, within_at, many_at, Takes}
-use Rattle.codec.specs.declared.cursor.Cursor.{Cursor}
-use Rattle.codec.specs.declared.fault.Fault.{Fault}
-use Rattle.codec.proofs.Takings.{all, takes_done}
+use Rattle.codec.specs.Reading.{Scan, then, within_at, many_at}
+use Rattle.codec.proofs.Takings.{all}
 use Rattle.lfpl.specs.Syntax.{Ty}
 use Rattle.lfpl.specs.Typing.{type_at}
 use Rattle.lfpl.specs.Reading.{◌>>=◌, Reader, pure, below, type_ref, Signature as TypeOf, signature_at, signatures_at, arity}
 use Rattle.tables.specs.Inner.{parameters_at, Numbered, Few}
 use Rattle.tables.specs.Listed.{Numbers, Signs, AllSign}
 use Rattle.tables.specs.declared.listing.Signature.{Signature}
-use Rattle.tables.proofs.Givings.{then_assoc, break, on}
+use Rattle.tables.proofs.Givings.{then_assoc}
 
 -- ---- parameters
 
 abbrev pub type_each : List Ty → List ℕ → List Ty → ℕ → Scan Ty
 type_each ts bs As q = type_ref ts bs q
-
-pub type_breaks : (ts : List Ty) (n : ℕ) {c c' : Cursor} (e : Fault) → length ts ≡ n → Takes (within_at 0 n) c (Err e) c' → Takes (type_ref ts) c (Err e) c'
-type_breaks ts n {c} {c'} e l t = break (below (length ts)) (λ j. pure (type_at ts j)) e (subst (λ n. Takes (within_at 0 n) c (Err e) c') (sym l) t)
-
-pub type_read : (ts : List Ty) (n j : ℕ) {c c' : Cursor} → length ts ≡ n → Takes (within_at 0 n) c (Ok j) c' → Takes (type_ref ts) c (Ok (type_at ts j)) c'
-type_read ts n j {c} {c'} l t =
-    on (below (length ts)) (λ j. pure (type_at ts j)) j (subst (λ n. Takes (within_at 0 n) c (Ok j) c') (sym l) t) c' (Ok (type_at ts j)) (takes_done (pure (type_at ts j)) c' (type_at ts j) refl)
 
 numbered_push : (ts : List Ty) (ns : List ℕ) (As : List Ty) (j : ℕ) → Numbered ts ns As → j < length ts → Numbered ts (ns ++ j ∷ []) (As ++ type_at ts j ∷ [])
 numbered_push ts ns As j k h = (all_below ns k.0, ap (λ l. l ++ type_at ts j ∷ []) k.1 ∙ sym (map_push ns))

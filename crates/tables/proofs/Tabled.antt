@@ -1,5 +1,5 @@
 -- The steps of reading a table.
-use Rattle.std.proofs.Common.{◌≡◌, ℕ, ◌-◌, ◌<◌, ◌≤◌, Bool, true, false, cond, ltb, List, map, length, take, Ok, Err, Result, sym, refl, ap, ◌∙◌, ap₂, arith, length-take}
+use Rattle.std.proofs.Common.{◌≡◌, ℕ, ◌<◌, ◌≤◌, Bool, true, false, cond, ltb, List, map, length, take, Ok, Err, Result, sym, refl, ap, ◌∙◌, ap₂, arith, length-take}
 use Rattle.std.proofs.lemmas.Bool.{lt-ltb, le-ltb}
 use Rattle.codec.specs.Reading.{done, refused, then, Takes}
 use Rattle.codec.specs.declared.cursor.Cursor.{Cursor}
@@ -85,7 +85,5 @@ module _ (bs : List ℕ) (c₀ : Cursor) (whole : c₀.bytes.now ≡ bs) (begins
 pub count_types : (entries : List Entry) (n : ℕ) (ts : List Ty) → Types (take n entries) ts → n ≤ length entries → length ts ≡ n
 count_types entries n ts t h = omega (arith, t.long, length-take n entries)
 
-pub named : (n m : ℕ) (slots : List Signature) (ts : List Ty) (ss : List TypeOf) → length ts ≡ n → AllSign ts (take m slots) ss → Named n (take (m - 0) slots) (names_for ts ss)
-named n m slots ts ss l a =
-    let z : m ≡ m - 0 = omega arith in
-    record { types = l; arities = arities_are ts (take m slots) ss a ∙ ap (λ m. map (λ (f : Signature). f.arity) (take m slots)) z }
+pub named : (n m : ℕ) (slots : List Signature) (ts : List Ty) (ss : List TypeOf) → length ts ≡ n → AllSign ts (take m slots) ss → Named n (take m slots) (names_for ts ss)
+named n m slots ts ss l a = record { types = l; arities = arities_are ts (take m slots) ss a }

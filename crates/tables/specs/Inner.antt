@@ -1,24 +1,20 @@
 -- How the code reads: what the inner functions of the reader promise, told by the readings that define tables.
-use Rattle.std.specs.Prelude.{◌≡◌, ℕ, ◌+◌, ◌<◌, ◌≤◌, Bool, true, cond, List, [], ◌∷◌, ◌++◌, map, length, take, drop, replicate, Some, None, Ok, Err, Option, Result, nat_le, nat_lt, slice_index_or}
+use Rattle.std.specs.Prelude.{◌≡◌, ℕ, ◌+◌, ◌<◌, ◌≤◌, List, [], ◌∷◌, ◌++◌, map, length, replicate, Some, None, Ok, Err, Option, Result, slice_index_or}
 use Rattle.codec.specs.Reading.{Takes, number_at}
 use Rattle.codec.specs.declared.cursor.Cursor.{Cursor}
 use Rattle.codec.specs.declared.fault.Fault.{Fault}
-use Rattle.codec.specs.declared.fault.Refusal.{Refusal}
-use Rattle.codec.specs.declared.fault.Refusal.TheVariants.{TooManyExpressions, TooManyVariables}
 use Rattle.lfpl.specs.Syntax.{Ty, int, Head, guard}
 use Rattle.lfpl.specs.Typing.{type_at}
 use Rattle.lfpl.specs.Reading.{◌>>=◌, Reader, pure, below, many, type_ref, forms, Names, shape, heads}
-use Rattle.tables.specs.Listed.{references, formed, Numbers, head_by, head_of, InRange}
-use Rattle.tables.specs.declared.listing.Entry.{Entry}
+use Rattle.tables.specs.Listed.{Below, formed, Numbers, head_by, head_of, InRange}
+use Rattle.tables.specs.declared.listing.Form.{Form}
 use Rattle.tables.specs.declared.listing.Signature.{Signature}
 use Rattle.tables.specs.declared.expressions.Open.{Open}
 use Rattle.tables.specs.declared.expressions.Operand as O
 use Rattle.tables.specs.declared.expressions.Operand.TheVariants as Operand
-use Rattle.tables.specs.declared.expressions.Shape.{Shape}
 use Rattle.tables.specs.declared.listing.Kind as K
 use Rattle.tables.specs.declared.listing.Kind.TheVariants as Kind
 use Rattle.tables.specs.declared.listing.Node.{Node}
-use Rattle.tables.specs.declared.types.Formation.{Formation}
 
 -- A call at the cursor c answers r and leaves the cursor as c'. It answers what stands for the thing that the reading f gives there, or the refusal of f.
 abbrev pub Gives : {X Y : Type 0} → Reader Y → (X → Y → Type 0) → Cursor → Result X Fault → Cursor → Type 0
@@ -27,13 +23,9 @@ Gives f R c (Err e) c' = Takes f c (Err e) c'
 
 -- ---- types
 
--- the reading of a reference, where one is wanted
-abbrev pub refer_at : Bool → List Ty → Reader Ty
-refer_at wanted ts = cond wanted (type_ref ts) (pure int)
-
--- the reference j is the number of the type A, where one is wanted
-abbrev pub Refers : Bool → List Ty → ℕ → Ty → Type 0
-Refers wanted ts j A = wanted ≡ true → (j < length ts) × (A ≡ type_at ts j)
+-- the reference j is the number of the type A
+abbrev pub Refers : List Ty → ℕ → Ty → Type 0
+Refers ts j A = (j < length ts) × (A ≡ type_at ts j)
 
 -- the reading of an entry's type, before it is tested
 abbrev pub form_at : List Ty → Reader Ty
@@ -41,17 +33,10 @@ form_at ts = do
   k ← below 6
   slice_index_or (forms ts) k (pure int)
 
--- the form and the references of an entry make the type A
-pub record Makes (ts : List Ty) (m : Formation) (A : Ty) : Type 0 where
-  pub type : A ≡ formed m.form (type_at ts m.first) (type_at ts m.second)
-  pub first : 1 ≤ references m.form → m.first < length ts
-  pub second : 2 ≤ references m.form → m.second < length ts
-
--- the entry has the form and its references
-pub record Alike (e : Entry) (m : Formation) : Type 0 where
-  pub form : e.form ≡ m.form
-  pub first : 1 ≤ references m.form → e.first ≡ m.first
-  pub second : 2 ≤ references m.form → e.second ≡ m.second
+-- the form has the type A, and refers to types of ts only
+pub record Makes (ts : List Ty) (f : Form) (A : Ty) : Type 0 where
+  pub refers : Below (length ts) f
+  pub type : A ≡ formed ts f
 
 -- ---- signatures
 
@@ -95,10 +80,6 @@ operand_of Kind.CaseTree = Operand.Nothing
 abbrev pub arms_of : K.Kind → List ℕ
 arms_of k = (shape [] (head_by k [] 0)).arms
 
--- The description that the code goes by is drawn from the shape of the kind's heads; a call's parts are its function's parameters.
-abbrev pub shape_of : K.Kind → Shape
-shape_of k = record { operand = operand_of k; parts = (shape [] (head_by k [] 0)).parts; arms = length (arms_of k); binds = take 2 (arms_of k ++ 0 ∷ 0 ∷ []) }
-
 -- the code's counts are those of the names: so many types, and functions with so many parameters
 pub record Named (count : ℕ) (fs : List Signature) (ns : Names) : Type 0 where
   pub types : length ns.types ≡ count
@@ -128,10 +109,6 @@ kind_at ns scope = do
   k ← below 16
   slice_index_or (heads ns scope) k (pure guard)
 
--- why an expression may not begin after `count` others in a scope of so many variables; the scope comes first
-abbrev pub hindered : ℕ → ℕ → Option Refusal
-hindered scope count = cond (nat_lt 32 scope) (Some TooManyVariables) (cond (nat_le 512 count) (Some TooManyExpressions) None)
-
 -- the node stands for the head, in a scope of so many variables
 pub record Begins (ns : Names) (scope : ℕ) (x : Node) (h : Head) : Type 0 where
   pub head : h ≡ head_of ns.types x
@@ -143,7 +120,7 @@ inner arities h n = replicate (shape arities h).parts n ++ map (λ b. n + b) (sh
 
 -- the scopes of what an unfinished expression still has to come
 unfoldable pub to_come : Open → List ℕ
-to_come o = replicate o.parts o.scope ++ map (λ b. o.scope + b) (drop o.arm (arms_of o.kind))
+to_come o = replicate o.parts o.scope ++ map (λ b. o.scope + b) o.arms.now
 
 -- the scopes of what all of them have to come
 unfoldable pub waiting : List Open → List ℕ

@@ -15,27 +15,27 @@ use Rattle.tables.specs.declared.listing.Signature.{Signature}
 
 -- ---- types
 
--- how many earlier entries an entry of the form refers to
-abbrev pub references : F.Form → ℕ
-references Form.Number = 0
-references Form.Diamond = 0
-references Form.List = 1
-references Form.Tree = 1
-references Form.Pair = 2
-references Form.Sum = 2
+-- the form's references are below n
+abbrev pub Below : ℕ → F.Form → Type 0
+Below n Form.Number = Unit {0}
+Below n Form.Diamond = Unit {0}
+Below n (Form.List a) = a < n
+Below n (Form.Tree a) = a < n
+Below n (Form.Pair a b) = (a < n) × (b < n)
+Below n (Form.Sum a b) = (a < n) × (b < n)
 
--- the type of the form, made of the types A and B
-abbrev pub formed : F.Form → Ty → Ty → Ty
-formed Form.Number A B = int
-formed Form.Diamond A B = diamond
-formed Form.List A B = list_of A
-formed Form.Tree A B = tree_of A
-formed Form.Pair A B = pair_of A B
-formed Form.Sum A B = sum_of A B
+-- the type of the form, where its references are numbers among the types ts
+abbrev pub formed : List Ty → F.Form → Ty
+formed ts Form.Number = int
+formed ts Form.Diamond = diamond
+formed ts (Form.List a) = list_of (type_at ts a)
+formed ts (Form.Tree a) = tree_of (type_at ts a)
+formed ts (Form.Pair a b) = pair_of (type_at ts a) (type_at ts b)
+formed ts (Form.Sum a b) = sum_of (type_at ts a) (type_at ts b)
 
 -- what stands past the last entry
 abbrev pub no_entry : Entry
-no_entry = record { form = Form.Number; first = 0; second = 0; width = 1; heap_free = true }
+no_entry = record { form = Form.Number; width = 1; heap_free = true }
 
 -- the entry with the number i
 abbrev pub entry_of : List Entry → ℕ → Entry
@@ -43,9 +43,8 @@ entry_of es i = slice_index_or es i no_entry
 
 -- the entry with the number i lists the type that stands at i among ts: it refers to earlier entries only, and notes its type's width and whether it is heap-free
 pub record Lists (ts : List Ty) (i : ℕ) (e : Entry) : Type 0 where
-  pub first : 1 ≤ references e.form → e.first < i
-  pub second : 2 ≤ references e.form → e.second < i
-  pub type : type_at ts i ≡ formed e.form (type_at ts e.first) (type_at ts e.second)
+  pub refers : Below i e.form
+  pub type : type_at ts i ≡ formed ts e.form
   pub width : e.width ≡ width (type_at ts i)
   pub free : e.heap_free ≡ is_heap_free (type_at ts i)
 

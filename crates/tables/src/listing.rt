@@ -1,29 +1,30 @@
-ghost use Rattle.std.specs.Prelude.{◌≡◌};
+ghost use Rattle.std.specs.Prelude.{◌≡◌, ◌≤◌, length, take};
 ghost use Rattle.tables.specs.declared.listing.Kind.TheVariants.{Guard};
 
-// the six kinds of type entries, in the order of their numbers
-#[derive(Clone, Copy)]
+// a table has at most so many types
+pub const MOST_TYPES: usize = 64;
+
+// What the type of an entry is, by the numbers of the earlier entries that it is made of. The forms are in the order of their numbers.
+#[derive(Clone, Copy, Debug, PartialEq, Eq)]
 pub enum Form {
     Number,
     Diamond,
-    List,
-    Tree,
-    Pair,
-    Sum,
+    List(u8),
+    Tree(u8),
+    Pair(u8, u8),
+    Sum(u8, u8),
 }
 
-// an entry of a table's types: its form, the earlier entries that it refers to (0 where it has none), the width of its type's values in words, and whether the type is heap-free
+// an entry of a table's types: its form, the width of its type's values in words, and whether the type is heap-free
 #[derive(Clone, Copy)]
 pub struct Entry {
     pub form: Form,
-    pub first: u8,
-    pub second: u8,
     pub width: u8,
     pub heap_free: bool,
 }
 
 // a function's parameter types and result type, by their entries' numbers
-#[derive(Clone, Copy)]
+#[derive(Clone, Copy, Default)]
 pub struct Signature {
     pub params: [u8; 6],
     pub arity: usize,
@@ -61,12 +62,22 @@ pub struct Node {
 // a table as it is read and not yet judged: so many types, functions, and expressions in reading order
 #[derive(Clone, Copy)]
 pub struct Listing {
-    pub entries: [Entry; 64],
+    pub entries: [Entry; MOST_TYPES],
     pub types: usize,
     pub signatures: [Signature; 32],
     pub functions: usize,
     pub nodes: [Node; 512],
     pub expressions: usize,
+}
+
+impl Listing {
+    // The entries of its types, by number.
+    pub fn type_entries(&self) -> &[Entry]
+        ensures are { result.now ≡ take self.now.types self.now.entries }
+        ensures few { length result.now ≤ 64 }
+    {
+        &self.entries[..self.types.min(MOST_TYPES)]
+    }
 }
 
 // What stands where there is no expression.

@@ -3,8 +3,8 @@ ghost use Rattle.codec.specs.declared.fault.Part.TheVariants.{Table as part_tabl
 ghost use Rattle.tables.specs.Read.{Reads};
 
 use crate::expressions::expressions;
-use crate::listing::{Listing, blank};
-use crate::signatures::{NO_SIGNATURE, signatures};
+use crate::listing::{Listing, Signature, blank};
+use crate::signatures::signatures;
 use crate::types::{NO_ENTRY, types};
 use codec::cursor::Cursor;
 use codec::fault::{Fault, Part, Refusal};
@@ -23,10 +23,10 @@ fn table(cursor: &mut Cursor, bytes: &[u8]) -> Result<Listing, Fault>
 {
     let mut entries = [NO_ENTRY; 64];
     let type_count = types(cursor, &mut entries)?;
-    let mut slots = [NO_SIGNATURE; 32];
+    let mut slots = [Signature::default(); 32];
     let function_count = signatures(cursor, type_count, &mut slots)?;
     let mut nodes = [blank(); 512];
-    let count = expressions(cursor, type_count, &slots[0..function_count], &mut nodes)?;
+    let count = expressions(cursor, type_count, &slots[..function_count], &mut nodes)?;
     let place = cursor.place();
     if is_within(place, bytes) {
         return Err(cursor.fault(Refusal::BytesOver, place));

@@ -1,82 +1,35 @@
 -- Sets of variables as numbers against what is said of variables.
-use Rattle.std.proofs.Common.{◌≡◌, ℕ, zero, suc, ◌+◌, ◌-◌, ◌*◌, ◌/◌, ◌%◌, ◌^◌, ◌<◌, min, max, Bool, true, false, not, ◌&&◌, ◌||◌, eqb, leb, ◌≢◌, ◌⊎◌, List, [], ◌∷◌, ◌++◌, length, sym, refl, ap, ◌∙◌, ap₂, inl, inr, pow-suc, div-one, arith}
+use Rattle.std.proofs.Common.{◌≡◌, ℕ, zero, suc, ◌+◌, ◌/◌, ◌%◌, ◌^◌, ◌<◌, Bool, true, false, not, ◌&&◌, ◌||◌, eqb, leb, ◌⊎◌, List, [], ◌∷◌, ◌++◌, length, sym, refl, ap, ◌∙◌, ap₂, inl, inr, arith}
 use native.Mathlib.Nat.{div_self, div-eq_of_lt}
-use lib.Bits.{bit_or, bit_and, or_shr, and_shr, or_step, and_step, and_le_r}
-use Rattle.std.proofs.lemmas.Nat.{pow_pos, pow-add, shl-shr, shr-shr, pow_below}
-use Rattle.std.proofs.lemmas.Bool.{eq-eqb, ne_eqb, eqb-false, le-leb, true≢false, cases_Bool, cases_eq}
+use lib.Bits.{bit_or, bit_and, and_le_r}
+use Rattle.std.proofs.Math.Bool.{and-false}
+use Rattle.std.proofs.lemmas.Bool.Decides.{nat_tests}
+use Rattle.std.proofs.lemmas.Nat.Bits.{bit_at-lt, bit_at_or, bit_at_and, bit_at-zero, bit_at-pow_same, bit_at-pow_other, same_from_bits_below}
+use Rattle.std.proofs.lemmas.Nat.{pow_pos}
+use Rattle.std.proofs.lemmas.Bool.{or_parts, eq-eqb, ne_eqb, eqb-false, true≢false, cases_Bool, cases_eq}
 use Rattle.lfpl.specs.Syntax.{Ty, is_heap_free, Head, var, call, const, apply, guard, mk_pair, case_pair, mk_left, mk_right, case_sum, mk_nil, mk_cons, case_list, mk_leaf, mk_node, case_tree, Expr, Exprs, expr, end, ◌then◌, is_var, names, names_any}
 use Rattle.lfpl.specs.Judge.{count, parts_naming, shares}
 use Rattle.typing.specs.Scopes.{has, heavy, head_mask, mask, masks, twice}
 
-or_odd : (a b : ℕ) → bit_or a b % 2 ≡ max (a % 2) (b % 2)
-or_odd a b = let s = or_step a b in omega arith
-
-and_odd : (a b : ℕ) → bit_and a b % 2 ≡ min (a % 2) (b % 2)
-and_odd a b = let s = and_step a b in omega arith
-
-below_two : (x : ℕ) → x < 2 → (x ≡ 0) ⊎ (x ≡ 1)
-below_two zero h = inl refl
-below_two (suc zero) h = inr refl
-below_two (suc (suc x)) h = absurd (let z : 2 < 2 = omega arith in omega arith)
-
-either_odd : (x y : ℕ) → x < 2 → y < 2 → eqb (max x y) 1 ≡ (eqb x 1 || eqb y 1)
-either_odd x y h k = go (below_two x h) (below_two y k)
-  where
-    go : (x ≡ 0) ⊎ (x ≡ 1) → (y ≡ 0) ⊎ (y ≡ 1) → eqb (max x y) 1 ≡ (eqb x 1 || eqb y 1)
-    go (inl p) (inl q) = rw (p, q) refl
-    go (inl p) (inr q) = rw (p, q) refl
-    go (inr p) (inl q) = rw (p, q) refl
-    go (inr p) (inr q) = rw (p, q) refl
-
-both_odd : (x y : ℕ) → x < 2 → y < 2 → eqb (min x y) 1 ≡ (eqb x 1 && eqb y 1)
-both_odd x y h k = go (below_two x h) (below_two y k)
-  where
-    go : (x ≡ 0) ⊎ (x ≡ 1) → (y ≡ 0) ⊎ (y ≡ 1) → eqb (min x y) 1 ≡ (eqb x 1 && eqb y 1)
-    go (inl p) (inl q) = rw (p, q) refl
-    go (inl p) (inr q) = rw (p, q) refl
-    go (inr p) (inl q) = rw (p, q) refl
-    go (inr p) (inr q) = rw (p, q) refl
-
 pub has_or : (a b v : ℕ) → has (bit_or a b) v ≡ (has a v || has b v)
-has_or a b v = rw (or_shr a b v, or_odd (a / 2 ^ v) (b / 2 ^ v)) (either_odd (a / 2 ^ v % 2) (b / 2 ^ v % 2) (omega arith) (omega arith))
+has_or a b v = let x = bit_at-lt a v in let y = bit_at-lt b v in rw (bit_at_or a b v) (grind (arith, nat_tests))
 
 pub has_and : (a b v : ℕ) → has (bit_and a b) v ≡ (has a v && has b v)
-has_and a b v = rw (and_shr a b v, and_odd (a / 2 ^ v) (b / 2 ^ v)) (both_odd (a / 2 ^ v % 2) (b / 2 ^ v % 2) (omega arith) (omega arith))
+has_and a b v = let x = bit_at-lt a v in let y = bit_at-lt b v in rw (bit_at_and a b v) (grind (arith, nat_tests))
 
 pub has_none : (v : ℕ) → has 0 v ≡ false
-has_none v = rw (native.Mathlib.Nat.zero-div (2 ^ v)) refl
+has_none v = rw (bit_at-zero v) refl
 
 pub has_one : (w v : ℕ) → has (2 ^ w) v ≡ eqb v w
-has_one w v =
-    elim (native.Mathlib.Decide.dec_lt v w) [
-      | yes l ↦ low l
-      | no l ↦ elim (native.Mathlib.Decide.dec_lt w v) [ yes h ↦ high h | no h ↦ level (omega arith) ]
-    ]
+has_one w v = go (cases_eq v w)
   where
-    low : v < w → has (2 ^ w) v ≡ eqb v w
-    low l =
-        let d : ℕ = w - v - 1 in
-        let e : w ≡ suc d + v = omega arith in
-        let q : 2 ^ w / 2 ^ v ≡ 2 ^ d * 2 = ap (λ (x : ℕ). 2 ^ x / 2 ^ v) e ∙ ap (λ (x : ℕ). x / 2 ^ v) (pow-add 2 (suc d) v) ∙ shl-shr (2 ^ suc d) v ∙ pow-suc 2 d in
-        let z : 2 ^ w / 2 ^ v % 2 ≡ 0 = ap (λ (x : ℕ). x % 2) q ∙ omega arith in
-        rw z (sym (ne_eqb v w (λ p. omega arith)))
-
-    level : v ≡ w → has (2 ^ w) v ≡ eqb v w
-    level e = rw (e, div_self (pow_pos w)) (sym (eq-eqb w w refl))
-
-    high : w < v → has (2 ^ w) v ≡ eqb v w
-    high h = rw (div-eq_of_lt (pow_below w v h)) (sym (ne_eqb v w (λ p. omega arith)))
+    go : (v ≡ w) ⊎ (v ≡ w → ⊥) → has (2 ^ w) v ≡ eqb v w
+    go (inl e) = rw (e, bit_at-pow_same w) (sym (eq-eqb w w refl))
+    go (inr n) = rw (bit_at-pow_other w v n) (sym (ne_eqb v w n))
 
 -- a set without a variable is 0
 no_bit : (k m : ℕ) → m < 2 ^ k → ((v : ℕ) → has m v ≡ false) → m ≡ 0
-no_bit zero m h f = omega arith
-no_bit (suc k) m h f =
-    let p : 2 ^ suc k ≡ 2 ^ k * 2 = pow-suc 2 k in
-    let z : m / 2 ≡ 0 = no_bit k (m / 2) (omega arith) (λ v. ap (λ (x : ℕ). eqb (x % 2) 1) (shr-shr m 1 v ∙ ap (λ (x : ℕ). m / 2 ^ x) (omega arith)) ∙ f (suc v)) in
-    let o = eqb-false (m / 2 ^ 0 % 2) 1 (f 0) in
-    let r : m / 2 ^ 0 ≡ m = div-one m in
-    let y : m % 2 ≢ 1 = λ e. o (ap (λ (x : ℕ). x % 2) r ∙ e) in
-    omega arith
+no_bit k m h f = same_from_bits_below k m 0 h (pow_pos k) (λ i _. let n = eqb-false (m / 2 ^ i % 2) 1 (f i) in rw (bit_at-zero i) (omega arith))
 
 -- the variables that occur
 head_names : (h : Head) (v : ℕ) → has (head_mask h) v ≡ is_var v h
@@ -106,48 +59,36 @@ mutual
   masks_names end v = has_none v
   masks_names (e then es) v = has_or (mask e) (masks es) v ∙ ap₂ ◌||◌ (mask_names e v) (masks_names es v)
 
-zero_more : (n : ℕ) → n ≡ 0 + n
-zero_more n = omega arith
-
-le_or : (a b : Bool) → b ≡ true → (a || b) ≡ true
-le_or true b h = refl
-le_or false b h = h
-
 -- in one part, and in two
 any_part : (es : Exprs) (v : ℕ) → names_any v es ≡ leb 1 (parts_naming v es)
 any_part end v = refl
-any_part (e then es) v = go (names v e) (any_part es v)
+any_part (e then es) v = rw (any_part es v) (counted (names v e) (parts_naming v es))
   where
-    go : (b : Bool) → names_any v es ≡ leb 1 (parts_naming v es) → (b || names_any v es) ≡ leb 1 (count b + parts_naming v es)
-    go true h = sym (le-leb 1 (1 + parts_naming v es) (omega arith))
-    go false h = h ∙ ap (leb 1) (zero_more (parts_naming v es))
+    counted : (b : Bool) (n : ℕ) → (b || leb 1 n) ≡ leb 1 (count b + n)
+    counted true n = grind (arith, nat_tests)
+    counted false n = grind (arith, nat_tests)
 
 two_parts : (es : Exprs) (v : ℕ) → has (twice es) v ≡ leb 2 (parts_naming v es)
 two_parts end v = has_none v
 two_parts (e then es) v =
     has_or (bit_and (mask e) (masks es)) (twice es) v
     ∙ ap₂ ◌||◌ (has_and (mask e) (masks es) v ∙ ap₂ ◌&&◌ (mask_names e v) (masks_names es v ∙ any_part es v)) (two_parts es v)
-    ∙ go (names v e) (parts_naming v es)
+    ∙ counted (names v e) (parts_naming v es)
   where
-    go : (b : Bool) (n : ℕ) → ((b && leb 1 n) || leb 2 n) ≡ leb 2 (count b + n)
-    go true zero = refl
-    go true (suc zero) = refl
-    go true (suc (suc n)) = le_or (leb 1 (suc (suc n))) (leb 2 (suc (suc n))) (le-leb 2 (suc (suc n)) (omega arith)) ∙ sym (le-leb 2 (1 + suc (suc n)) (omega arith))
-    go false n = ap (leb 2) (zero_more n)
+    counted : (b : Bool) (n : ℕ) → ((b && leb 1 n) || leb 2 n) ≡ leb 2 (count b + n)
+    counted true n = grind (arith, nat_tests)
+    counted false n = grind (arith, nat_tests)
 
 -- in two parts, all arms being one
 part_or_arm : (ps qs : Exprs) (v : ℕ) → has (bit_or (twice ps) (bit_and (masks ps) (masks qs))) v ≡ leb 2 (parts_naming v ps + count (names_any v qs))
 part_or_arm ps qs v =
     has_or (twice ps) _ v
     ∙ ap₂ ◌||◌ (two_parts ps v) (has_and (masks ps) (masks qs) v ∙ ap₂ ◌&&◌ (masks_names ps v ∙ any_part ps v) (masks_names qs v))
-    ∙ go (parts_naming v ps) (names_any v qs)
+    ∙ counted (parts_naming v ps) (names_any v qs)
   where
-    go : (n : ℕ) (b : Bool) → (leb 2 n || (leb 1 n && b)) ≡ leb 2 (n + count b)
-    go zero true = refl
-    go zero false = refl
-    go (suc zero) true = refl
-    go (suc zero) false = refl
-    go (suc (suc n)) b = ap (λ (x : Bool). x || (leb 1 (suc (suc n)) && b)) (le-leb 2 (suc (suc n)) (omega arith)) ∙ sym (le-leb 2 (suc (suc n) + count b) (omega arith))
+    counted : (n : ℕ) (b : Bool) → (leb 2 n || (leb 1 n && b)) ≡ leb 2 (n + count b)
+    counted n true = grind (arith, nat_tests)
+    counted n false = grind (arith, nat_tests)
 
 module _ (ps qs : Exprs) where
   shared_at : ℕ → Bool
@@ -155,25 +96,17 @@ module _ (ps qs : Exprs) where
 
   none_shared : (Γ : List Ty) (i : ℕ) → shares i Γ ps qs ≡ false → (v : ℕ) → (shared_at (i + v) && heavy Γ v) ≡ false
   unfolding shared_at
-  none_shared [] i h v = last (leb 2 (parts_naming (i + v) ps + count (names_any (i + v) qs)))
+  none_shared [] i h v = and-false (shared_at (i + v))
+  none_shared (A ∷ Γ) i h zero =
+      let p = or_parts (not (is_heap_free A) && shared_at i) (shares (suc i) Γ ps qs) h in
+      rw (native.Mathlib.Nat.add-zero i) (swapped (not (is_heap_free A)) (shared_at i) p.0)
     where
-      last : (b : Bool) → (b && false) ≡ false
-      last true = refl
-      last false = refl
-  none_shared (A ∷ Γ) i h zero = rw (native.Mathlib.Nat.add-zero i) (last (not (is_heap_free A)) (leb 2 (parts_naming i ps + count (names_any i qs))) (shares (suc i) Γ ps qs) h)
-    where
-      last : (a b c : Bool) → ((a && b) || c) ≡ false → (b && a) ≡ false
-      last true true c h = absurd (true≢false h)
-      last true false c h = refl
-      last false true c h = refl
-      last false false c h = refl
+      swapped : (a b : Bool) → (a && b) ≡ false → (b && a) ≡ false
+      swapped a b h = grind arith
   none_shared (A ∷ Γ) i h (suc v) =
+      let p = or_parts (not (is_heap_free A) && shared_at i) (shares (suc i) Γ ps qs) h in
       let e : i + suc v ≡ suc i + v = omega arith in
-      rw e (none_shared Γ (suc i) (last (not (is_heap_free A) && leb 2 (parts_naming i ps + count (names_any i qs))) (shares (suc i) Γ ps qs) h) v)
-    where
-      last : (a c : Bool) → (a || c) ≡ false → c ≡ false
-      last true c h = absurd (true≢false h)
-      last false c h = h
+      rw e (none_shared Γ (suc i) p.1 v)
 
   Sharer : List Ty → ℕ → Type 0
   Sharer Γ i = (v : ℕ) × ((shared_at (i + v) && heavy Γ v) ≡ true)
@@ -205,35 +138,14 @@ module _ (ps qs : Exprs) where
       go : (shares 0 Γ ps qs ≡ true) ⊎ (shares 0 Γ ps qs ≡ false) → eqb (bit_and (bit_or tw (bit_and pm am)) h) 0 ≡ not (shares 0 Γ ps qs)
       go (inl s) =
           let v = some_shared Γ 0 s in
-          let at = ap (λ (x : ℕ). shared_at x && heavy Γ v.0) (zero_more v.0) ∙ v.1 in
+          let at = ap (λ (x : ℕ). shared_at x && heavy Γ v.0) (omega arith) ∙ v.1 in
           ne_eqb _ 0 (λ z. true≢false (sym at ∙ sym (bit v.0) ∙ ap (λ (x : ℕ). has x v.0) z ∙ has_none v.0)) ∙ sym (ap not s)
       go (inr s) =
-          eq-eqb _ 0 (no_bit 32 _ (native.Mathlib.Nat.lt_of_le_of_lt (and_le_r _ h) small) (λ v. bit v ∙ ap (λ (x : ℕ). shared_at x && heavy Γ v) (zero_more v) ∙ none_shared Γ 0 s v)) ∙ sym (ap not s)
+          eq-eqb _ 0 (no_bit 32 _ (native.Mathlib.Nat.lt_of_le_of_lt (and_le_r _ h) small) (λ v. bit v ∙ ap (λ (x : ℕ). shared_at x && heavy Γ v) (omega arith) ∙ none_shared Γ 0 s v)) ∙ sym (ap not s)
 
 -- one variable more
 pub heavy_push : (Γ : List Ty) (A : Ty) (v : ℕ) → heavy (Γ ++ A ∷ []) v ≡ (heavy Γ v || (not (is_heap_free A) && eqb v (length Γ)))
-heavy_push [] A zero = last (not (is_heap_free A))
-  where
-    last : (b : Bool) → b ≡ (b && true)
-    last true = refl
-    last false = refl
-heavy_push [] A (suc v) = sym (ap (λ (b : Bool). not (is_heap_free A) && b) (ne_eqb (suc v) 0 (λ e. omega arith)) ∙ last (not (is_heap_free A)))
-  where
-    last : (b : Bool) → (b && false) ≡ false
-    last true = refl
-    last false = refl
-heavy_push (B ∷ Γ) A zero =
-    last (not (is_heap_free B)) (not (is_heap_free A)) ∙ sym (ap (λ (b : Bool). not (is_heap_free B) || (not (is_heap_free A) && b)) (ne_eqb 0 (suc (length Γ)) (λ e. omega arith)))
-  where
-    last : (a b : Bool) → a ≡ (a || (b && false))
-    last true b = refl
-    last false true = refl
-    last false false = refl
-heavy_push (B ∷ Γ) A (suc v) = heavy_push Γ A v ∙ ap (λ (b : Bool). heavy Γ v || (not (is_heap_free A) && b)) (step v (length Γ))
-  where
-    step : (m n : ℕ) → eqb m n ≡ eqb (suc m) (suc n)
-    step m n = go (cases_eq m n)
-      where
-        go : (m ≡ n) ⊎ (m ≡ n → ⊥) → eqb m n ≡ eqb (suc m) (suc n)
-        go (inl e) = eq-eqb m n e ∙ sym (eq-eqb (suc m) (suc n) (ap suc e))
-        go (inr e) = ne_eqb m n e ∙ sym (ne_eqb (suc m) (suc n) (λ f. e (omega arith)))
+heavy_push [] A zero = grind (arith, nat_tests)
+heavy_push [] A (suc v) = grind (arith, nat_tests)
+heavy_push (B ∷ Γ) A zero = grind (arith, nat_tests)
+heavy_push (B ∷ Γ) A (suc v) = rw (heavy_push Γ A v) (grind (arith, nat_tests))

@@ -1,60 +1,45 @@
 -- Variables in scope, and where their words lie.
-use Rattle.std.proofs.Common.{◌≡◌, ℕ, ◌+◌, ◌%◌, ◌^◌, ◌<◌, Bool, not, ◌&&◌, ◌||◌, eqb, List, [], ◌∷◌, ◌++◌, length, get_or, take, set, sym, ap, ◌∙◌, subst, ap₂, append_assoc, mod-eq_of_lt, arith, length-set, length-take}
+use Rattle.std.proofs.Common.{◌≡◌, ℕ, ◌+◌, ◌^◌, ◌<◌, Bool, not, ◌&&◌, ◌||◌, eqb, List, [], ◌∷◌, ◌++◌, length, get_or, map, take, set, sym, ap, ◌∙◌, subst, ap₂, append_assoc, arith}
+use lib.ListN.{length-map}
 use lib.Bits.{bit_or, or_lt}
-use Rattle.std.proofs.lemmas.List.{get_or-take, take_more_set, take_more}
+use Rattle.std.proofs.lemmas.List.{map-append, take_more}
 use Rattle.lfpl.specs.Syntax.{Ty, int, width, is_heap_free}
 use Rattle.lfpl.specs.Typing.{type_at}
 use Rattle.typing.specs.Codes.{Coded, CodedAll}
 use Rattle.typing.specs.Scopes.{widths, offsets}
 use Rattle.typing.specs.Scopes.{Scopes, has}
+use Rattle.typing.specs.declared.codes.Code as C
+use Rattle.typing.specs.declared.codes.Code.TheVariants as Code
 use Rattle.typing.specs.declared.scope.Scope.{Scope}
-use Rattle.typing.proofs.Coding.{coded_length, coded_at, coded_push}
+use Rattle.typing.specs.declared.scope.Variable.{Variable}
+use Rattle.typing.proofs.Coding.{coded_length, coded_or, coded_push}
 use Rattle.typing.proofs.Masks.{has_or, heavy_push}
 
-pub scope_length : (ts : List Ty) (s : Scope) (Γ : List Ty) (ps : List ℕ) → Scopes ts s Γ ps → length Γ ≡ s.count
+pub scope_length : (ts : List Ty) (s : Scope) (Γ : List Ty) (ps : List ℕ) → Scopes ts s Γ ps → length Γ ≡ length s.variables.items
 scope_length ts s Γ ps h =
     let n = coded_length ts _ Γ h.codes in
-    let m = length-take s.count s.codes in
-    let f = h.full.0 in
-    let g = h.few in
+    let m = length-map s.variables.items (λ (v : Variable). v.code) in
     omega arith
 
--- the code and the place of a variable
-module _ (ts : List Ty) (s : Scope) (Γ : List Ty) (ps : List ℕ) (v : ℕ) (h : Scopes ts s Γ ps) (k : v < length Γ) where
-  below : v < s.count
-  below = let n = scope_length ts s Γ ps h in omega arith
-
-  itself : v % 32 ≡ v
-  itself = let b = below in let f = h.few in mod-eq_of_lt (omega arith)
-
-  pub variable_code : Coded ts (get_or s.codes (v % 32) 0) (type_at Γ v)
-  variable_code =
-      subst (λ (i : ℕ). Coded ts (get_or s.codes i 0) (type_at Γ v)) (sym itself)
-      (subst (λ (c : ℕ). Coded ts c (type_at Γ v)) (get_or-take s.count s.codes v 0 below) (coded_at ts _ Γ v 0 h.codes k))
-
-  pub variable_place : get_or s.places (v % 32) 0 ≡ get_or ps v 0
-  variable_place =
-      ap (λ (i : ℕ). get_or s.places i 0) itself ∙ sym (get_or-take s.count s.places v 0 below) ∙ ap (λ (l : List ℕ). get_or l v 0) h.places
-
-  pub variable_few : v < 32
-  variable_few = let b = below in let f = h.few in omega arith
+-- the code of a variable
+pub variable_at : (ts : List Ty) (s : Scope) (Γ : List Ty) (ps : List ℕ) (v : ℕ) → Scopes ts s Γ ps → Coded ts (get_or (map (λ (x : Variable). x.code) s.variables.items) v Code.Number) (type_at Γ v)
+variable_at ts s Γ ps v h = coded_or ts _ Γ v h.codes
 
 -- one variable more
-pub scopes_push : (ts Γ : List Ty) (A : Ty) (ps : List ℕ) (s : Scope) (c bit w : ℕ) (free : Bool) → s.count < 32 → Scopes ts s Γ ps → Coded ts c A
-    → ((v : ℕ) → has bit v ≡ (not free && eqb v s.count)) → bit < 2 ^ 32 → free ≡ is_heap_free A
-    → Scopes ts (record { codes = set s.codes s.count c; places = set s.places s.count s.over; count = s.count + 1; heavy = bit_or s.heavy bit; over = w })
-    (Γ ++ A ∷ []) (ps ++ s.over ∷ [])
-scopes_push ts Γ A ps s c bit w free l h k b small e =
+pub scopes_push : (ts Γ : List Ty) (A : Ty) (ps : List ℕ) (s s' : Scope) (c : C.Code) (over bit : ℕ) (free : Bool) → Scopes ts s Γ ps → Coded ts c A
+    → ((v : ℕ) → has bit v ≡ (not free && eqb v (length s.variables.items))) → bit < 2 ^ 32 → free ≡ is_heap_free A
+    → s'.variables.items ≡ s.variables.items ++ record { code = c; place = over } ∷ [] → s'.heavy ≡ bit_or s.heavy bit
+    → Scopes ts s' (Γ ++ A ∷ []) (ps ++ over ∷ [])
+scopes_push ts Γ A ps s s' c over bit free h k b small e more set =
     let n = scope_length ts s Γ ps h in
-    let f = h.full.0 in
-    let g = h.full.1 in
+    let x : Variable = record { code = c; place = over } in
+    let codes = ap (map (λ (v : Variable). v.code)) more ∙ map-append (λ (v : Variable). v.code) s.variables.items (x ∷ []) in
+    let places = ap (map (λ (v : Variable). v.place)) more ∙ map-append (λ (v : Variable). v.place) s.variables.items (x ∷ []) in
     record {
-      few = omega arith;
-      full = (length-set s.codes s.count c ∙ f, length-set s.places s.count s.over ∙ g);
-      codes = subst (λ (cs : List ℕ). CodedAll ts cs (Γ ++ A ∷ [])) (sym (take_more_set s.codes s.count c (omega arith))) (coded_push ts _ Γ c A h.codes k);
-      places = take_more_set s.places s.count s.over (omega arith) ∙ ap (λ (x : List ℕ). x ++ s.over ∷ []) h.places;
-      small = or_lt 32 s.heavy bit h.small small;
-      heavy = λ v. has_or s.heavy bit v
+      codes = subst (λ (cs : List C.Code). CodedAll ts cs (Γ ++ A ∷ [])) (sym codes) (coded_push ts _ Γ c A h.codes k);
+      places = places ∙ ap (λ (l : List ℕ). l ++ over ∷ []) h.places;
+      small = subst (λ m. m < 2 ^ 32) (sym set) (or_lt 32 s.heavy bit h.small small);
+      heavy = λ v. ap (λ m. has m v) set ∙ has_or s.heavy bit v
           ∙ ap₂ ◌||◌ (h.heavy v) (b v ∙ ap₂ (λ (x : Bool) (m : ℕ). not x && eqb v m) e (sym n)) ∙ sym (heavy_push Γ A v);
     }
 

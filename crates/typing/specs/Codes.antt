@@ -1,13 +1,14 @@
 -- Codes of types: numbers that are equal exactly where the types are.
-use Rattle.std.specs.Prelude.{◌≡◌, ℕ, ◌<◌, ◌≤◌, List, [], ◌∷◌, map, length, take}
+use Rattle.std.specs.Prelude.{◌≡◌, ℕ, ◌<◌, ◌≤◌, List, [], ◌∷◌, map, length, take, slice_index_or}
+use Rattle.arrayvec.specs.ArrayVec.{ArrayVec}
 use Rattle.lfpl.specs.Syntax.{Ty, int, diamond, list_of, tree_of, pair_of, sum_of, first, second, width, is_heap_free}
 use Rattle.lfpl.specs.Typing.{type_at}
-use Rattle.tables.specs.Listed.{Types, formed, references}
+use Rattle.tables.specs.Listed.{Below, Types, formed}
 use Rattle.tables.specs.declared.listing.Entry.{Entry}
 use Rattle.tables.specs.declared.listing.Listing.{Listing}
-use Rattle.typing.specs.declared.codes.Row.{Row}
+use Rattle.typing.specs.declared.codes.Code as C
+use Rattle.typing.specs.declared.codes.Code.TheVariants as Code
 use Rattle.typing.specs.declared.codes.Slot as S
-use Rattle.typing.specs.declared.codes.Slots.{Slots}
 use Rattle.typing.specs.declared.codes.Slot.TheVariants as Slot
 
 -- the listing lists the types ts, by number
@@ -15,38 +16,41 @@ pub record Typed (l : Listing) (ts : List Ty) : Type 0 where
   pub few : l.types ≤ 64
   pub types : Types (take l.types l.entries) ts
 
--- the entry with the number c lists the type A
-abbrev pub Entered : List Ty → ℕ → Ty → Type 0
-Entered ts c A = (c < length ts) × (type_at ts c ≡ A)
+-- a type that is made of types
+abbrev pub Made : Ty → Type 0
+Made int = ⊥
+Made diamond = ⊥
+Made (list_of A) = Unit {0}
+Made (tree_of A) = Unit {0}
+Made (pair_of A B) = Unit {0}
+Made (sum_of A B) = Unit {0}
 
--- The code c stands for the type A, where the entries list the types ts: 64 for N and 65 for diamond, whether they are listed or not, and the number of its entry
--- for any other type.
-abbrev pub Coded : List Ty → ℕ → Ty → Type 0
-Coded ts c int = c ≡ 64
-Coded ts c diamond = c ≡ 65
-Coded ts c (list_of A) = Entered ts c (list_of A)
-Coded ts c (tree_of A) = Entered ts c (tree_of A)
-Coded ts c (pair_of A B) = Entered ts c (pair_of A B)
-Coded ts c (sum_of A B) = Entered ts c (sum_of A B)
+-- The code stands for the type A, where the entries list the types ts: N and diamond have codes of their own, whether they are listed or not, and any other type
+-- that of the number of its entry.
+abbrev pub Coded : List Ty → C.Code → Ty → Type 0
+Coded ts Code.Number A = A ≡ int
+Coded ts Code.Diamond A = A ≡ diamond
+Coded ts (Code.Listed i) A = (i < length ts) × (type_at ts i ≡ A) × Made A
 
 -- codes of types, one by one
-abbrev pub CodedAll : List Ty → List ℕ → List Ty → Type 0
+abbrev pub CodedAll : List Ty → List C.Code → List Ty → Type 0
 CodedAll ts [] [] = Unit {0}
 CodedAll ts [] (A ∷ As) = ⊥
 CodedAll ts (c ∷ cs) [] = ⊥
 CodedAll ts (c ∷ cs) (A ∷ As) = Coded ts c A × CodedAll ts cs As
 
 -- the row has the codes of the types As
-pub record Encodes (ts : List Ty) (r : Row) (As : List Ty) : Type 0 where
-  pub few : r.count ≤ 6
-  pub full : length r.codes ≡ 6
-  pub codes : CodedAll ts (take r.count r.codes) As
+abbrev pub Encodes : List Ty → ArrayVec C.Code → List Ty → Type 0
+Encodes ts r As = CodedAll ts r.items As
 
--- the entry tells what the type A is: its form, the entries of what it is made of, its width, and whether it is heap-free
+-- each of the items is told only the code of its type
+pub record TellsEach {X : Type 0} (ts : List Ty) (Tells : X → C.Code → Type 0) (type : X → Ty) (xs : List X) : Type 0 where
+  pub code : (i : ℕ) (d : X) → i < length xs → (c : C.Code) → Tells (slice_index_or xs i d) c → Coded ts c (type (slice_index_or xs i d))
+
+-- the entry tells what the type A is: its form, with the entries of what it is made of, its width, and whether it is heap-free
 pub record Describes (ts : List Ty) (A : Ty) (e : Entry) : Type 0 where
-  pub first : 1 ≤ references e.form → e.first < length ts
-  pub second : 2 ≤ references e.form → e.second < length ts
-  pub type : A ≡ formed e.form (type_at ts e.first) (type_at ts e.second)
+  pub refers : Below (length ts) e.form
+  pub type : A ≡ formed ts e.form
   pub width : e.width ≡ width A
   pub free : e.heap_free ≡ is_heap_free A
   pub narrow : e.width ≤ 16
@@ -59,5 +63,5 @@ slot_type A Slot.Whole = A
 slot_type A Slot.First = first A
 slot_type A Slot.Second = second A
 
-abbrev pub slot_types : Ty → Slots → List Ty
-slot_types A s = map (slot_type A) (take s.count s.slots)
+abbrev pub slot_types : Ty → List S.Slot → List Ty
+slot_types A s = map (slot_type A) s

@@ -1,5 +1,5 @@
 -- Variables in scope, and sets of variables as numbers.
-use Rattle.std.specs.Prelude.{◌≡◌, ℕ, zero, suc, ◌+◌, ◌/◌, ◌%◌, ◌^◌, ◌<◌, ◌≤◌, Bool, false, not, List, [], ◌∷◌, length, take, ◌==◌, bit_and, bit_or}
+use Rattle.std.specs.Prelude.{◌≡◌, ℕ, zero, suc, ◌+◌, ◌/◌, ◌%◌, ◌^◌, ◌<◌, Bool, false, not, List, [], ◌∷◌, map, ◌==◌, bit_and, bit_or}
 use Rattle.lfpl.specs.Syntax.{Ty, width, is_heap_free, Head, var, call, const, apply, guard, mk_pair, case_pair, mk_left, mk_right, case_sum, mk_nil, mk_cons, case_list, mk_leaf, mk_node, case_tree, Expr, Exprs, expr, end, ◌then◌}
 use Rattle.typing.specs.Codes.{CodedAll}
 use Rattle.typing.specs.declared.scope.Scope.{Scope}
@@ -58,9 +58,7 @@ offsets over (A ∷ As) = over ∷ offsets (over + width A) As
 
 -- The scope has variables of the types Γ, by their codes, at the places ps, and marks those that are not heap-free.
 pub record Scopes (ts : List Ty) (s : Scope) (Γ : List Ty) (ps : List ℕ) : Type 0 where
-  pub few : s.count ≤ 32
-  pub full : (length s.codes ≡ 32) × (length s.places ≡ 32)
-  pub codes : CodedAll ts (take s.count s.codes) Γ
-  pub places : take s.count s.places ≡ ps
+  pub codes : CodedAll ts (map (λ v. v.code) s.variables.items) Γ
+  pub places : map (λ v. v.place) s.variables.items ≡ ps
   pub small : s.heavy < 2 ^ 32
   pub heavy : (v : ℕ) → has s.heavy v ≡ heavy Γ v

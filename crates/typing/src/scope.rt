@@ -1,35 +1,71 @@
-ghost use Rattle.std.specs.Prelude.{◌≡◌, ℕ, ◌+◌, ◌^◌, ◌<◌, ◌≤◌, not, ◌&&◌, List, [], ◌∷◌, ◌++◌, ◌==◌};
+ghost use Rattle.std.specs.Prelude.{◌≡◌, ℕ, ◌+◌, ◌^◌, ◌<◌, ◌≤◌, not, ◌&&◌, List, [], ◌∷◌, ◌++◌, ◌==◌, slice_index};
+ghost use Rattle.arrayvec.specs.ArrayVec.{array_vec_len};
 ghost use Rattle.lfpl.specs.Syntax.{Ty, width};
+ghost use Rattle.lfpl.specs.Typing.{type_at};
 ghost use Rattle.typing.specs.Codes.{Coded, Encodes, Typed};
 ghost use Rattle.typing.specs.Scopes.{offsets, widths};
 ghost use Rattle.typing.specs.Scopes.{Scopes, has};
 
-use crate::codes::{Row, entry_of};
+use crate::codes::{Code, Row, entry_of};
+use arrayvec::ArrayVec;
 use tables::listing::Listing;
 
-// The variables in scope at an expression: the codes of their types, where their words begin above those of the body's first parameter, and a bit for each whose
-// type is not heap-free. The expression stands over `over` words of its body.
-#[derive(Clone, Copy)]
-pub struct Scope {
-    pub codes: [u8; 32],
-    pub places: [usize; 32],
-    pub count: usize,
-    pub heavy: u32,
-    pub over: usize,
+// a variable in scope: the code of its type, and where its words begin above those of the body's first parameter
+#[derive(Clone, Copy, Default)]
+pub struct Variable {
+    pub code: Code,
+    pub place: usize,
 }
 
-// No variable, over no words.
+// The variables in scope at an expression, and a bit for each whose type is not heap-free.
+#[derive(Drop)]
+pub struct Scope {
+    pub variables: ArrayVec<Variable, 32>,
+    pub heavy: u32,
+}
+
+// No variable.
 pub fn no_variables() -> Scope
     ensures scopes { (ts : List Ty) → Scopes ts result [] [] }
-    ensures count { result.count ≡ 0 }
-    ensures over { result.over ≡ 0 }
+    ensures count { array_vec_len result.variables ≡ 0 }
 {
     Scope {
-        codes: [0; 32],
-        places: [0; 32],
-        count: 0,
+        variables: ArrayVec::new(),
         heavy: 0,
-        over: 0,
+    }
+}
+
+// The code of the type of the variable with the number; N where there is none.
+pub fn variable_code(scope: &Scope, number: u32) -> Code
+    ensures { (ts Γ : List Ty) (ps : List ℕ) → Scopes ts scope.now Γ ps → Coded ts result (type_at Γ number) }
+{
+    match scope.variables.get(number as usize) {
+        Some(variable) => variable.code,
+        None => Code::Number,
+    }
+}
+
+// Where the words of the variable with the number begin; 0 where there is none.
+pub fn variable_place(scope: &Scope, number: u32) -> usize
+    ensures { (ts Γ : List Ty) (ps : List ℕ) → Scopes ts scope.now Γ ps → result ≡ slice_index ps number }
+{
+    match scope.variables.get(number as usize) {
+        Some(variable) => variable.place,
+        None => 0,
+    }
+}
+
+// The same variables, to which others may be added. By a loop, since a vector's own clone answers a Result, and this cannot fail.
+pub fn copy_of(scope: &Scope) -> Scope
+    ensures { result ≡ scope.now }
+{
+    let mut variables = ArrayVec::new();
+    for variable in scope.variables.as_slice() {
+        variables.push(*variable);
+    }
+    Scope {
+        variables,
+        heavy: scope.heavy,
     }
 }
 
@@ -42,54 +78,40 @@ fn heavy_bit(free: bool, at: usize) -> u32
     if free { 0 } else { 1u32 << at }
 }
 
-// One variable more, whose words lie over those so far.
-pub fn extend(listing: &Listing, scope: Scope, code: u8) -> Scope
-    requires room { scope.count < 32 }
-    requires low { scope.over ≤ 65536 }
-    ensures scopes { (ts Γ : List Ty) (A : Ty) (ps : List ℕ) → Typed listing.now ts → Coded ts code A → Scopes ts scope Γ ps → Scopes ts result (Γ ++ A ∷ []) (ps ++ scope.over ∷ []) }
-    ensures over { (ts : List Ty) (A : Ty) → Typed listing.now ts → Coded ts code A → result.over ≡ scope.over + width A }
-    ensures count { result.count ≡ scope.count + 1 }
-    ensures low { result.over ≤ scope.over + 255 }
+// Over how many words it is, with those of a value of the type with the code besides.
+pub fn raise(listing: &Listing, over: usize, code: Code) -> usize
+    requires { over ≤ 65536 }
+    ensures over { (ts : List Ty) (A : Ty) → Typed listing.now ts → Coded ts code A → result ≡ over + width A }
+    ensures low { result ≤ over + 255 }
 {
-    let entry = entry_of(listing, code);
-    let at = scope.count;
-    let mut codes = scope.codes;
-    codes[at] = code;
-    let mut places = scope.places;
-    places[at] = scope.over;
-    let heavy = scope.heavy | heavy_bit(entry.heap_free, at);
-    Scope {
-        codes,
-        places,
-        count: at + 1,
-        heavy,
-        over: scope.over + entry.width as usize,
-    }
+    over + entry_of(listing, code).width as usize
 }
 
-// One variable more for each type of the row.
-pub fn extend_all(listing: &Listing, scope: Scope, row: Row) -> Scope
-    requires few { row.count ≤ 6 }
-    requires room { scope.count + row.count ≤ 32 }
-    requires low { scope.over ≤ 60000 }
-    ensures scopes { (ts Γ As : List Ty) (ps : List ℕ) → Typed listing.now ts → Encodes ts row As → Scopes ts scope Γ ps → Scopes ts result (Γ ++ As) (ps ++ offsets scope.over As) }
-    ensures over { (ts As : List Ty) → Typed listing.now ts → Encodes ts row As → result.over ≡ scope.over + widths As }
+// One variable more, whose words lie over so many; over how many then.
+pub fn extend(listing: &Listing, scope: &mut Scope, over: usize, code: Code) -> usize
+    requires room { array_vec_len scope.old.variables < 32 }
+    requires low { over ≤ 65536 }
+    ensures scopes { (ts Γ : List Ty) (A : Ty) (ps : List ℕ) → Typed listing.now ts → Coded ts code A → Scopes ts scope.old Γ ps → Scopes ts scope.new (Γ ++ A ∷ []) (ps ++ over ∷ []) }
+    ensures over { (ts : List Ty) (A : Ty) → Typed listing.now ts → Coded ts code A → result ≡ over + width A }
+    ensures count { array_vec_len scope.new.variables ≡ array_vec_len scope.old.variables + 1 }
+    ensures low { result ≤ over + 255 }
 {
-    let mut inner = scope;
-    for k in 0..row.count {
-        inner = extend(listing, inner, row.codes[k]);
-    }
-    inner
+    let at = scope.variables.len();
+    scope.variables.push(Variable { code, place: over });
+    scope.heavy |= heavy_bit(entry_of(listing, code).heap_free, at);
+    raise(listing, over, code)
 }
 
-// The same variables, over the words of a value of the type with the code besides.
-pub fn raise(listing: &Listing, scope: Scope, code: u8) -> Scope
-    requires { scope.over ≤ 65536 }
-    ensures scopes { (ts Γ : List Ty) (ps : List ℕ) → Scopes ts scope Γ ps → Scopes ts result Γ ps }
-    ensures over { (ts : List Ty) (A : Ty) → Typed listing.now ts → Coded ts code A → result.over ≡ scope.over + width A }
+// One variable more for each type of the row, whose words lie over so many; over how many then.
+pub fn extend_all(listing: &Listing, scope: &mut Scope, over: usize, row: &Row) -> usize
+    requires room { array_vec_len scope.old.variables + array_vec_len row.now ≤ 32 }
+    requires low { over ≤ 60000 }
+    ensures scopes { (ts Γ As : List Ty) (ps : List ℕ) → Typed listing.now ts → Encodes ts row.now As → Scopes ts scope.old Γ ps → Scopes ts scope.new (Γ ++ As) (ps ++ offsets over As) }
+    ensures over { (ts As : List Ty) → Typed listing.now ts → Encodes ts row.now As → result ≡ over + widths As }
 {
-    let entry = entry_of(listing, code);
-    let mut raised = scope;
-    raised.over = scope.over + entry.width as usize;
-    raised
+    let mut end = over;
+    for code in row.as_slice() {
+        end = extend(listing, scope, end, *code);
+    }
+    end
 }

@@ -1,8 +1,5 @@
 use Rattle.codec.proofs.Spellings.{Writing}
 use Rattle.codec.proofs.writer.write_groups.Given as goal
 
-abbrev pub invariant-loop-rest : goal.invariant-loop-rest
-invariant-loop-rest l = Writing l.initial.area l.start l.n l.area l.at l.rest
-
-abbrev pub decreases-loop-rest : goal.decreases-loop-rest
-decreases-loop-rest l = l.rest
+abbrev pub invariant-loop-slot : goal.invariant-loop-slot
+invariant-loop-slot l = Writing l.n l.slot-items l.slot-index l.rest

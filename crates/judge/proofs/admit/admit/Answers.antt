@@ -15,9 +15,9 @@ returns-in_err-listing c =
 pub returns : goal.returns
 returns c =
     let R = c.in_ok-listing.ensures in
-    let A = c.judge_listing.ensures.answers R.0 R.3 in
+    let A = c.judge_listing.ensures R.0 R.3 in
     record {
       answers = judged_admits c.args.bytes.now R.0 R.1 R.2 c.judge_listing.result A;
       typing = admission_is_typing c.args.bytes.now;
-      words = judged_over c.args.bytes.now R.0 R.1 R.2 c.judge_listing.result A (c.judge_listing.ensures.words R.0 R.3);
+      words = judged_over c.args.bytes.now R.0 R.1 R.2 c.judge_listing.result A;
     }

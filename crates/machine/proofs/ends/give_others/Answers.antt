@@ -1,12 +1,11 @@
-use Rattle.std.proofs.Common.{take, refl, arith}
+use Rattle.std.proofs.Common.{refl}
 use Rattle.machine.proofs.Givings.{giving_more, giving_all}
 use Rattle.machine.proofs.ends.give_others.Goals as goal
 
-pub loop-i-preserved : goal.loop-i-preserved
-loop-i-preserved g c =
-    let ks = take c.args.n c.args.staying.now in
-    giving_more _ _ _ ks c.args.cells.now c.args.count c.loop-i.i _ c.holds-stays.result (omega (arith, c.loop-i-test.true, c.min-i-end.ensures)) refl
-    c.holds-stays.ensures c.loop-i.invariant c.give_unless.ensures
+pub loop-cell-preserved : goal.loop-cell-preserved
+loop-cell-preserved g c =
+    giving_more _ _ _ c.args.staying.now c.args.cells.now c.loop-cell.cell-index _ c.contains-stays.result c.loop-cell-test.true refl
+    c.contains-stays.ensures.value c.loop-cell.invariant c.give_unless.ensures
 
 pub returns : goal.returns
-returns g c = giving_all _ _ (take c.args.n c.args.staying.now) c.args.cells.now c.args.count c.loop-i.i (omega (arith, c.loop-i-test.false, c.loop-i.auto.i-end, c.min-i-end.ensures)) c.loop-i.invariant
+returns g c = giving_all _ _ c.args.staying.now c.args.cells.now c.loop-cell.cell-index c.loop-cell-test.false c.loop-cell.invariant

@@ -1,7 +1,6 @@
-use Rattle.std.proofs.Common.{◌≡◌, List, length, refl, ap, arith}
+use Rattle.std.proofs.Common.{refl}
 use Rattle.std.proofs.lemmas.Result.{err_from_is_err_and}
-use Rattle.tables.specs.declared.listing.Entry.{Entry}
-use Rattle.programmer.proofs.Calls.{empty_refused, emptied, type_known}
+use Rattle.programmer.proofs.Calls.{empty_refused, emptied}
 use Rattle.programmer.proofs.Programmer.empty.Goals as goal
 
 pub returns-in_err-stored : goal.returns-in_err-stored
@@ -11,11 +10,8 @@ returns-in_err-stored g c =
 
 pub returns : goal.returns
 returns g c =
-    let n : length c.entries_of-entries.result.now ≡ _ = ap (λ (es : List Entry). length es) c.entries_of-entries.ensures.is in
     record {
       keeps = λ made l a.
-          let k = type_known made _ l _ c.args.shelf a c.in_ok-stored.stored c.in_ok-stored.ensures.within c.in_ok-stored.ensures.is in
-          emptied made _ l _ c.args.shelf a c.in_ok-stored.stored c.in_ok-stored.ensures.within c.in_ok-stored.ensures.is _ _
-          c.entries_of-entries.ensures.is (c.give_back.ensures (omega (arith, n, k)));
+          emptied made _ l _ c.args.shelf a c.in_ok-stored.stored c.in_ok-stored.ensures.within c.in_ok-stored.ensures.is _ _ c.entries_of-entries.ensures.is c.release.ensures;
       still = tt;
     }

@@ -8,6 +8,6 @@ use Rattle.programmer.proofs.play.play_on.Given as goal
 -- the calls so far were played, whatever the pool was at the making
 abbrev pub invariant-loop-i : goal.invariant-loop-i
 invariant-loop-i g l =
-    (length l.area ≡ l.room)
-    × ((made : Meaning) → made.free ≡ l.cells → Agrees made (opened l.cells l.box_number) (g.P.Pool.means l.initial.programmer.pool) (view l.initial.programmer)
-    → SoFar g.P.Pool.means made (opened l.cells l.box_number) l.room (take l.i l.calls) l.programmer)
+    (length l.area ≡ l.making.room)
+    × ((made : Meaning) → made.free ≡ l.making.cells → Agrees made (opened l.making.cells l.making.box_number) (g.P.Pool.means l.initial.programmer.pool) (view l.initial.programmer)
+    → SoFar g.P.Pool.means made (opened l.making.cells l.making.box_number) l.making.room (take l.i l.calls) l.programmer)

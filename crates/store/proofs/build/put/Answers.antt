@@ -4,6 +4,7 @@ use Rattle.lfpl.specs.Typing.{type_at}
 use Rattle.store.specs.Building.{Puts}
 use Rattle.store.specs.Decoding.{decode}
 use Rattle.store.proofs.Puts.{put_done, put_refused}
+use Rattle.store.proofs.Shapes.{is_listed}
 use Rattle.store.proofs.build.put.Goals as goal
 
 pub returns-in_err-scan : goal.returns-in_err-scan
@@ -21,5 +22,5 @@ returns g c ts T =
     let m = g.P.Pool.means c.args.pool.now in
     let n = min c.allowance-most.result 512 in
     let s : n ≡ min (min c.args.spare m.free) 512 = omega (arith, c.allowance-most.ensures) in
-    let x = put_done c.args.bytes.now A n c.in_ok-scan.field-0 _ m _ _ _ (omega (arith, s)) (c.in_ok-scan.ensures.checked ts T) (c.build.ensures.builds ts T) in
+    let x = put_done c.args.bytes.now A n c.in_ok-scan.field-0 _ m _ _ _ (omega (arith, s)) (c.in_ok-scan.ensures.checked ts T) (c.build.ensures.builds A (is_listed c.new-kind.result c.args.entries.now c.args.t ts c.new-kind.ensures.entries c.new-kind.ensures.number T)) in
     subst (λ i. Puts (decode c.args.bytes.now A i) A m (Ok c.build.new.words) (g.P.Pool.means c.build.new.pool)) s x

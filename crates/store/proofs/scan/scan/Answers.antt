@@ -26,27 +26,25 @@ pub loop-next-init : goal.loop-next-init
 loop-next-init c =
     let n : room c.new-pile.result ≡ 7696 = search rules in
     let e = pushed (held c.new-pile.result) (held c.push.new.self) c.args.t (room c.new-pile.result) c.push.result c.push.ensures.fits c.push.ensures.held c.new-pile.ensures.held n in (
-      sofar_none c.args.entries.now c.args.bytes.now c.args.t c.min-most.result (held c.push.new.self) c.new-cursor.result c.requires.listed c.requires.known
-          (omega (arith, c.min-most.ensures)) e c.new-cursor.ensures.bytes c.new-cursor.ensures.place c.new-cursor.ensures.part,
-      c.push.ensures.sound,
+      sofar_none c.args.entries.now c.args.bytes.now c.args.t c.min-most.result (held c.push.new.self) c.new.result c.requires.listed c.requires.known
+          (omega (arith, c.min-most.ensures)) e c.new.ensures.bytes c.new.ensures.place c.new.ensures.part,
       c.push.ensures.room ∙ n,
     )
 
 pub loop-next-smaller : goal.loop-next-smaller
 loop-next-smaller c =
-    (sofar_more c.args.entries.now c.args.bytes.now c.args.t c.min-most.result (held c.loop-next.pile) c.loop-next.left c.loop-next.cursor c.requires.listed c.loop-next.invariant.0
+    (sofar_more c.args.entries.now c.args.bytes.now c.args.t c.min-most.result (held c.loop-next.pile) c.loop-next.reader.left c.loop-next.reader.cursor c.requires.listed c.loop-next.invariant.0
     c.in-Some.next (held c.pop.new.self) c.in-Some.ensures.held c.entry_at-entry.result c.entry_at-entry.ensures
-    c.in_ok-more.more c.front.new.left c.front.new.cursor (held c.stack.new.pile) c.in_ok-more.ensures
-    (λ l. c.stack.ensures.held (omega (arith, l, c.in-Some.ensures.room, c.loop-next.invariant.2)))).1
+    c.in_ok-more.more c.front.new.self.left c.front.new.self.cursor (held c.stack.new.pile) c.in_ok-more.ensures
+    (λ l. c.stack.ensures.held (omega (arith, l, c.in-Some.ensures.room, c.loop-next.invariant.1)))).1
 
 pub loop-next-preserved : goal.loop-next-preserved
 loop-next-preserved c = (
-  (sofar_more c.args.entries.now c.args.bytes.now c.args.t c.min-most.result (held c.loop-next.pile) c.loop-next.left c.loop-next.cursor c.requires.listed c.loop-next.invariant.0
+  (sofar_more c.args.entries.now c.args.bytes.now c.args.t c.min-most.result (held c.loop-next.pile) c.loop-next.reader.left c.loop-next.reader.cursor c.requires.listed c.loop-next.invariant.0
       c.in-Some.next (held c.pop.new.self) c.in-Some.ensures.held c.entry_at-entry.result c.entry_at-entry.ensures
-      c.in_ok-more.more c.front.new.left c.front.new.cursor (held c.stack.new.pile) c.in_ok-more.ensures
-      (λ l. c.stack.ensures.held (omega (arith, l, c.in-Some.ensures.room, c.loop-next.invariant.2)))).0,
-  c.stack.ensures.sound,
-  c.stack.ensures.room ∙ c.in-Some.ensures.room ∙ c.loop-next.invariant.2,
+      c.in_ok-more.more c.front.new.self.left c.front.new.self.cursor (held c.stack.new.pile) c.in_ok-more.ensures
+      (λ l. c.stack.ensures.held (omega (arith, l, c.in-Some.ensures.room, c.loop-next.invariant.1)))).0,
+  c.stack.ensures.room ∙ c.in-Some.ensures.room ∙ c.loop-next.invariant.1,
 )
 
 pub returns-in_err-more : goal.returns-in_err-more
@@ -54,9 +52,9 @@ returns-in_err-more c = record {
   checked = λ ts T.
       let p = err_from_is_err_and c.from_residual.result c.from_residual.ensures.1 in
       let f = c.in_err-more.field-0.0 in
-      let h = sofar_refused c.args.entries.now c.args.bytes.now c.args.t c.min-most.result (held c.loop-next.pile) c.loop-next.left c.loop-next.cursor c.requires.listed c.loop-next.invariant.0
+      let h = sofar_refused c.args.entries.now c.args.bytes.now c.args.t c.min-most.result (held c.loop-next.pile) c.loop-next.reader.left c.loop-next.reader.cursor c.requires.listed c.loop-next.invariant.0
       c.in-Some.next (held c.pop.new.self) c.in-Some.ensures.held c.entry_at-entry.result c.entry_at-entry.ensures
-      f c.front.new.left c.front.new.cursor c.in_err-more.ensures ts T in
+      f c.front.new.self.left c.front.new.self.cursor c.in_err-more.ensures ts T in
       let e = whole_refused c.args.bytes.now (type_at ts c.args.t) c.min-most.result f h.0 h.1 in
       rw (p.1, p.2) (e ∙ ap (λ s. checked s (decode c.args.bytes.now (type_at ts c.args.t) s)) c.min-most.ensures);
   decoded = λ A s. is_decoded c.args.bytes.now A s;
@@ -66,9 +64,9 @@ returns-in_err-more c = record {
 pub returns-then-over : goal.returns-then-over
 returns-then-over c = record {
   checked = λ ts T.
-      let e = sofar_over c.args.entries.now c.args.bytes.now c.args.t c.min-most.result (held c.loop-next.pile) c.loop-next.left c.loop-next.cursor c.loop-next.invariant.0
+      let e = sofar_over c.args.entries.now c.args.bytes.now c.args.t c.min-most.result (held c.loop-next.pile) c.loop-next.reader.left c.loop-next.reader.cursor c.loop-next.invariant.0
       c.in_default.ensures.held.0 ts T c.fault.result
-      (c.fault.ensures ∙ ap (λ q. record { refusal = BytesOver; place = q; part = c.loop-next.cursor.part }) c.place-place.ensures)
+      (c.fault.ensures ∙ ap (λ q. record { refusal = BytesOver; place = q; part = c.loop-next.reader.cursor.part }) c.place-place.ensures)
       (omega (arith, c.place-place.ensures, ltb-true c.place-place.result (length c.args.bytes.now) (sym c.over.ensures ∙ c.if-over.true))) in
       e ∙ ap (λ s. checked s (decode c.args.bytes.now (type_at ts c.args.t) s)) c.min-most.ensures;
   decoded = λ A s. is_decoded c.args.bytes.now A s;
@@ -78,7 +76,7 @@ returns-then-over c = record {
 pub returns : goal.returns
 returns c = record {
   checked = λ ts T.
-      let e = sofar_end c.args.entries.now c.args.bytes.now c.args.t c.min-most.result (held c.loop-next.pile) c.loop-next.left c.loop-next.cursor c.loop-next.invariant.0
+      let e = sofar_end c.args.entries.now c.args.bytes.now c.args.t c.min-most.result (held c.loop-next.pile) c.loop-next.reader.left c.loop-next.reader.cursor c.loop-next.invariant.0
       c.in_default.ensures.held.0 ts T (omega (arith, c.place-place.ensures, ltb-false c.place-place.result (length c.args.bytes.now) (sym c.over.ensures ∙ c.if-over.false))) in
       e ∙ ap (λ s. checked s (decode c.args.bytes.now (type_at ts c.args.t) s)) c.min-most.ensures;
   decoded = λ A s. is_decoded c.args.bytes.now A s;

@@ -6,7 +6,7 @@ use Rattle.store.proofs.walk.load.Goals as goal
 pub loop-k-preserved : goal.loop-k-preserved
 loop-k-preserved g c =
     let i = c.loop-k.invariant in
-    let ws = c.loop-k.words in
+    let ws = c.loop-k.word-items in
     let k = c.loop-k.k in
     let w = read_word (g.P.Pool.means c.args.pool.now) c.args.cell k _ _ c.loop-k-test.true refl c.word_of.ensures in (
       length-set ws k c.word_of.result ∙ i.0,

@@ -12,7 +12,7 @@ loop-o-init c =
     let e = c.pile_bodies.ensures in
     let b = c.args.cursor.now in
     let xs = c.args.nodes.now in
-    (c.requires.nodes, omega arith, e.deep, e.sound, e.room, λ ns k. subst (λ w. Underway ns b 0 xs w b) (k.arities ∙ sym e.waiting) (underway_begins ns b xs))
+    (c.requires.nodes, omega arith, e.deep, e.room, λ ns k. subst (λ w. Underway ns b 0 xs w b) (k.arities ∙ sym e.waiting) (underway_begins ns b xs))
 
 pub returns-in_err-x : goal.returns-in_err-x
 returns-in_err-x c =
@@ -25,7 +25,7 @@ returns-in_err-x c =
     record {
       gives = λ ns k.
           underway_breaks ns c.args.cursor.now c.loop-o.count c.loop-o.nodes n (waiting (rest ∷ os)) c.loop-o.cursor
-          (subst (λ w. Underway ns c.args.cursor.now c.loop-o.count c.loop-o.nodes w c.loop-o.cursor) w (c.loop-o.invariant.5 ns k))
+          (subst (λ w. Underway ns c.args.cursor.now c.loop-o.count c.loop-o.nodes w c.loop-o.cursor) w (c.loop-o.invariant.4 ns k))
           c.in_err-x.field-0.0 c.begin.new.cursor (c.in_err-x.ensures.gives ns k);
       bound = tt;
     }
@@ -41,7 +41,7 @@ loop-o-preserved-in-Some-next c =
     let rest = c.in-Some-next.rest in
     let n = c.in-Some-next.scope in
     let h = ap length c.in-Some.ensures.held in
-    let r : room c.pop.new.self ≡ 544 = c.pop.ensures.room ∙ s.4 in
+    let r : room c.pop.new.self ≡ 544 = c.pop.ensures.room ∙ s.3 in
     let p = c.push.ensures in
     let q = c.push-in-Some-next.ensures in
     let one = pushed_one os (held c.push.new.self) rest (room c.pop.new.self) c.push.result p.fits p.held (omega (arith, r, h, s.2, b)) in
@@ -51,14 +51,13 @@ loop-o-preserved-in-Some-next c =
       length-set nodes count x ∙ s.0,
       omega (arith, b),
       omega (arith, ap length two, h, s.2),
-      q.sound,
       q.room ∙ p.room ∙ r,
       λ ns k.
           subst (λ w. Underway ns c.args.cursor.now (count + 1) (set nodes count x) w c.begin.new.cursor)
           (opened_waits ns.arities (head_of ns.types x) n (held c.push-in-Some-next.new.self) c.opened.result rest os two
           (c.opened.ensures ns.types ∙ ap (λ l. inner l (head_of ns.types x) n) (sym k.arities)))
           (underway_opens ns c.args.cursor.now count nodes n (waiting (rest ∷ os)) c.loop-o.cursor
-          (subst (λ w. Underway ns c.args.cursor.now count nodes w c.loop-o.cursor) w (s.5 ns k))
+          (subst (λ w. Underway ns c.args.cursor.now count nodes w c.loop-o.cursor) w (s.4 ns k))
           x c.begin.new.cursor (c.in_ok-x.ensures.gives ns k) s.0 b.1 b.0),
     )
 
@@ -69,10 +68,9 @@ loop-o-preserved c =
       s.0,
       s.1,
       omega (arith, ap length e, s.2),
-      c.pop.ensures.sound,
-      c.pop.ensures.room ∙ s.4,
+      c.pop.ensures.room ∙ s.3,
       λ ns k. subst (λ w. Underway ns c.args.cursor.now c.loop-o.count c.loop-o.nodes w c.loop-o.cursor)
-          (nothing_comes (held c.loop-o.pile) c.in-Some.o (held c.pop.new.self) e c.in_default-next.ensures) (s.5 ns k),
+          (nothing_comes (held c.loop-o.pile) c.in-Some.o (held c.pop.new.self) e c.in_default-next.ensures) (s.4 ns k),
     )
 
 pub returns : goal.returns
@@ -80,7 +78,7 @@ returns c =
     let s = c.loop-o.invariant in
     record {
       gives = λ ns k. underway_ends ns c.args.cursor.now c.loop-o.count c.loop-o.nodes c.loop-o.cursor
-          (subst (λ w. Underway ns c.args.cursor.now c.loop-o.count c.loop-o.nodes w c.loop-o.cursor) (waiting_none (held c.loop-o.pile) c.in_default.ensures.held.0) (s.5 ns k))
+          (subst (λ w. Underway ns c.args.cursor.now c.loop-o.count c.loop-o.nodes w c.loop-o.cursor) (waiting_none (held c.loop-o.pile) c.in_default.ensures.held.0) (s.4 ns k))
           s.0 s.1;
       bound = s.1;
     }

@@ -6,7 +6,9 @@ use Rattle.tables.proofs.Signed.{type_each}
 use Rattle.tables.proofs.signatures.parameters.Given as goal
 
 -- so many parameters stand, by the numbers of the types read so far
-abbrev pub invariant-loop-i : goal.invariant-loop-i
-invariant-loop-i l =
-    (length l.slots ≡ 6) × (l.arity ≤ 6)
-    × ((ts : List Ty) → length ts ≡ l.types → ((As : List Ty) × Numbered ts (take l.i l.slots) As × Many (type_each ts) l.arity l.i As l.cursor l.initial.cursor))
+abbrev pub invariant-loop-slot : goal.invariant-loop-slot
+invariant-loop-slot l = record {
+  long : length l.slot-items ≡ l.arity;
+  few : l.arity ≤ 6;
+  read : (ts : List Ty) → length ts ≡ l.types → ((As : List Ty) × Numbered ts (take l.slot-index l.slot-items) As × Many (type_each ts) l.arity l.slot-index As l.cursor l.initial.cursor);
+}

@@ -1,29 +1,14 @@
-use Rattle.std.proofs.Common.{◌≡◌, ℕ, ◌<◌, map, take, sym, ap, ◌∙◌, subst, arith}
+use Rattle.std.proofs.Common.{◌≡◌, map, take, sym, ap, ◌∙◌, subst, arith, rules}
 use Rattle.lfpl.specs.Typing.{type_at}
-use Rattle.typing.specs.Codes.{Encodes}
-use Rattle.typing.proofs.Coding.{row_more, numbers_at}
+use Rattle.tables.specs.Listed.{Numbers}
+use Rattle.typing.specs.Codes.{CodedAll}
+use Rattle.typing.proofs.Coding.{numbers_at}
 use Rattle.typing.proofs.codes.parameter_codes.Goals as goal
 
-pub loop-k-preserved : goal.loop-k-preserved
-loop-k-preserved c =
-    let n = c.loop-k.invariant.0 in
-    let m = c.push-row.ensures.count in (
-      omega arith,
-      λ ts s t g.
-          let l = g.full in
-          let k : c.loop-k.k < 6 = omega arith in
-          let i : c.loop-k.k < c.args.signature.arity = omega arith in
-          row_more (type_at ts) c.args.signature.params ts c.loop-k.k 0 c.loop-k.row c.push-row.result _ (omega arith) (c.loop-k.invariant.1 ts s t g)
-          (λ As B. c.push-row.ensures.encodes ts As B) (c.code_of.ensures ts t (numbers_at ts c.args.signature.params _ c.loop-k.k 0 g.numbers i (omega arith))),
-    )
-
 pub returns : goal.returns
-returns c =
-    let n = c.loop-k.invariant.0 in
-    record {
-      encodes = λ ts s t g.
-          let l = g.few in
-          let k : c.loop-k.k ≡ c.args.signature.arity = omega arith in
-          subst (Encodes ts c.loop-k.row) (ap (λ (i : ℕ). map (type_at ts) (take i c.args.signature.params)) k ∙ sym g.params) (c.loop-k.invariant.1 ts s t g);
-      few = omega arith;
-    }
+returns c ts s t g =
+    let few = g.few in
+    let all : c.min.result ≡ c.args.signature.arity = omega arith in
+    let numbers = subst (λ n. Numbers ts (take n c.args.signature.params)) (sym all) g.numbers in
+    subst (CodedAll ts c.codes_of.result.items) (ap (λ n. map (type_at ts) (take n c.args.signature.params)) all ∙ sym g.params)
+    (c.codes_of.ensures ts (type_at ts) (record { code = λ i d h code told. let n = numbers_at ts _ i d numbers h in search rules }))
