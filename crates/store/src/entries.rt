@@ -5,18 +5,19 @@ ghost use Rattle.tables.specs.Listed.{entry_of};
 use tables::listing::{Entry, Form};
 
 // The entry of the type with the number `t`.
-pub fn entry_at(entries: &[Entry], t: u8) -> Entry
+pub fn entry_at(entries: &[Entry], t: usize) -> Entry
     requires { t < length entries.now }
     ensures { result ≡ entry_of entries.now t }
 {
-    entries[t as usize]
+    entries[t]
 }
 
-// One of the types that a table's entries list. That they list types and that it is one of them is known wherever it is.
+// One of the types that a table's entries list. That they list types and that it is one of them is known wherever it is. (Its number is a whole word: a narrower
+// one leaves blanks in the record, and a record with blanks is slow to hand on by value.)
 #[derive(Clone, Copy)]
 pub struct Kind<'a> {
     entries: &'a [Entry],
-    number: u8,
+    number: usize,
     ghost listed: { ∥ Listed entries.now ∥₁ },
     ghost known: { number < length entries.now },
 }
@@ -42,6 +43,7 @@ impl<'a> Kind<'a> {
         ensures entries { result.entries.now ≡ entries.now }
         ensures number { result.number ≡ number }
     {
+        let number = number as usize;
         Kind { entries, number }
     }
 
@@ -60,7 +62,7 @@ impl<'a> Kind<'a> {
     {
         Kind {
             entries: self.entries,
-            number,
+            number: number as usize,
         }
     }
 

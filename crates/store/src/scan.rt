@@ -128,7 +128,7 @@ pub fn scan(entries: &[Entry], t: u8, bytes: &[u8], spare: u32) -> Result<u32, F
     };
     let _ = pile.push(t);
     while let Some(next) = pile.pop() {
-        let entry = entry_at(entries, next);
+        let entry = entry_at(entries, next as usize);
         let more = reader.front(entry.form)?;
         stack(&mut pile, entry.form, next, more);
     }
