@@ -2,6 +2,7 @@
 
 ghost use Rattle.std.specs.Prelude.{◌≡◌, ℕ, ◌+◌, ◌-◌, ◌*◌, ◌^◌, ◌<◌, ◌≤◌};
 ghost use Rattle.std.specs.Option.{ok_or};
+ghost use Rattle.console.specs.Choices.{block_words};
 ghost use Rattle.console.specs.Decimal.{number_of, with_figure};
 
 use programmer::play::Call;
@@ -20,7 +21,9 @@ pub enum PoolChoice {
 
 impl PoolChoice {
     /// How many words the pool's block has; without one none.
-    pub fn words(self) -> u32 {
+    pub fn words(self) -> u32
+        ensures { result ≡ block_words self }
+    {
         match self {
             PoolChoice::Block { words }
             | PoolChoice::Pair { words }

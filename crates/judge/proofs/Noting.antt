@@ -74,13 +74,13 @@ module _ (fs : List Fun) (More Less : ℕ → Head → Exprs → Exprs → List 
       arm_less qs (n + 1 + sizes ps) (rule fs Γ h t.0).arms Γ places over t.1 t.4,
     )
 
-    part_less : (es : Exprs) (n : ℕ) (Γ : List Ty) (places : List ℕ) (over : ℕ) (As : List Ty) → EachPart fs More es n Γ places over As → EachPart fs Less es n Γ places over As
+    pub part_less : (es : Exprs) (n : ℕ) (Γ : List Ty) (places : List ℕ) (over : ℕ) (As : List Ty) → EachPart fs More es n Γ places over As → EachPart fs Less es n Γ places over As
     part_less end n Γ places over [] t = tt
     part_less end n Γ places over (A ∷ As) t = absurd t
     part_less (e then es) n Γ places over [] t = absurd t
     part_less (e then es) n Γ places over (A ∷ As) t = (each_less e n Γ places over A t.0, part_less es (n + size e) Γ places (over + width A) As t.1)
 
-    arm_less : (es : Exprs) (n : ℕ) (bs : List (List Ty)) (Γ : List Ty) (places : List ℕ) (over : ℕ) (B : Ty) → EachArm fs More es n bs Γ places over B
+    pub arm_less : (es : Exprs) (n : ℕ) (bs : List (List Ty)) (Γ : List Ty) (places : List ℕ) (over : ℕ) (B : Ty) → EachArm fs More es n bs Γ places over B
         → EachArm fs Less es n bs Γ places over B
     arm_less end n [] Γ places over B t = tt
     arm_less end n (b ∷ bs) Γ places over B t = absurd t

@@ -1,6 +1,5 @@
 -- What passes the judge: an expression by its parts and arms, and several by the first and the rest.
 use Rattle.std.proofs.Common.{◌≡◌, ℕ, suc, ◌+◌, ◌-◌, ◌*◌, ◌<◌, ◌≤◌, Bool, true, false, not, ◌&&◌, ◌||◌, ◌⊎◌, List, [], ◌∷◌, ◌++◌, map, length, get_or, take, set, replicate, sym, refl, ap, ◌∙◌, subst, ap₂, inl, inr, append_assoc, append-nil, arith, length-set, length-take}
-use Rattle.arrayvec.specs.ArrayVec.{ArrayVec}
 use lib.Bits.{bit_or, bit_and}
 use lib.ListN.{length-map, length-replicate}
 use Rattle.std.proofs.lemmas.List.{get_or-set_same, get_or-set_other}
@@ -54,13 +53,13 @@ row_narrow l ts t (c ∷ cs) (A ∷ As) h =
     let q = row_narrow l ts t cs As h.1 in
     omega arith
 
--- a row of no types
-pub no_row : (ts : List Ty) (r : ArrayVec C.Code) → r.items ≡ [] → Encodes ts r []
-no_row ts r e = subst (λ (cs : List C.Code). CodedAll ts cs []) (sym e) tt
+-- codes of no types
+pub no_row : (ts : List Ty) (cs : List C.Code) → cs ≡ [] → CodedAll ts cs []
+no_row ts cs e = subst (λ (ds : List C.Code). CodedAll ts ds []) (sym e) tt
 
--- one type more, in a row that has room
-pub row_more : (ts : List Ty) (r r' : ArrayVec C.Code) (As : List Ty) (c : C.Code) (A : Ty) → r'.items ≡ r.items ++ c ∷ [] → Encodes ts r As → Coded ts c A → Encodes ts r' (As ++ A ∷ [])
-row_more ts r r' As c A e h k = subst (λ (cs : List C.Code). CodedAll ts cs (As ++ A ∷ [])) (sym e) (coded_push ts r.items As c A h k)
+-- one code more
+pub row_more : (ts : List Ty) (cs cs' : List C.Code) (As : List Ty) (c : C.Code) (A : Ty) → cs' ≡ cs ++ c ∷ [] → CodedAll ts cs As → Coded ts c A → CodedAll ts cs' (As ++ A ∷ [])
+row_more ts cs cs' As c A e h k = subst (λ (ds : List C.Code). CodedAll ts ds (As ++ A ∷ [])) (sym e) (coded_push ts cs As c A h k)
 
 -- ---- an expression
 

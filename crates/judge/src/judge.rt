@@ -1,5 +1,5 @@
 ghost use Rattle.std.specs.Prelude.{◌≡◌, ℕ, ◌+◌, ◌*◌, ◌<◌, ◌≤◌, not, ◌&&◌, List, map, length, replicate, ◌==◌, bit_and, bit_or, slice_index};
-ghost use Rattle.arrayvec.specs.ArrayVec.{array_vec_len};
+ghost use Rattle.inline_vec.specs.Vectors.{inline_len};
 ghost use Rattle.codec.specs.declared.fault.Part.TheVariants.{Judgement};
 ghost use Rattle.lfpl.specs.Judge.{exprs_verdict, arms_verdict};
 ghost use Rattle.lfpl.specs.Syntax.{Expr, Exprs, Fun, Program, Ty, var};
@@ -13,8 +13,8 @@ ghost use Rattle.typing.specs.Rules.{names_of};
 ghost use Rattle.typing.specs.Scopes.{Scopes, head_mask};
 
 use crate::table::{Note, Table};
-use arrayvec::ArrayVec;
 use codec::fault::{Fault, Part, Refusal};
+use inline_vec::InlineVec;
 use tables::listing::{Kind, Listing, Node, Signature};
 use typing::codes::{Code, Row, alike, code_of, parameter_codes, slot_codes};
 use typing::rules::{Rule, fits, parts_of, rule_of, subject, whole};
@@ -71,14 +71,14 @@ fn place_of(scope: &Scope, node: Node) -> usize
 
 // A choice by a kind of type whose first part does not have it.
 fn unfit_choice(rule: Rule, fit: bool) -> bool
-    ensures { result ≡ (rule.early && not fit) }
+    ensures { result ≡ (rule.entry.early && not fit) }
 {
     rule.early && !fit
 }
 
 // All the types are as they must be: the parts', and the arms' one another's.
 fn settled(fit: bool, arms: &Row) -> bool
-    ensures { (l : Listing) (ts Bs : List Ty) → Typed l ts → Encodes ts arms.now Bs → array_vec_len arms.now ≤ 2 → result ≡ (fit && alike (type_at Bs 0) Bs) }
+    ensures { (l : Listing) (ts Bs : List Ty) → Typed l ts → Encodes ts arms.now Bs → inline_len arms.now ≤ 2 → result ≡ (fit && alike (type_at Bs 0) Bs) }
 {
     fit && alike(arms)
 }
@@ -119,7 +119,7 @@ fn judge(
     let node = listing.nodes[at];
     let rule = rule_of(node);
     let count = parts_of(listing, rule);
-    let parts = judge_parts(listing, count, at + 1, scope, over, ArrayVec::new(), notes)?;
+    let parts = judge_parts(listing, count, at + 1, scope, over, InlineVec::new(), notes)?;
     let about = subject(listing, rule, scope, &parts.row);
     let fit = fits(listing, rule, about, &parts.row);
     if unfit_choice(rule, fit) {
@@ -133,7 +133,7 @@ fn judge(
         parts.end,
         scope,
         over,
-        ArrayVec::new(),
+        InlineVec::new(),
         notes,
     )?;
     if !settled(fit, &arms.row) {
@@ -168,7 +168,7 @@ fn judge_parts(
 ) -> Result<Several, Fault>
     requires long { length notes.old ≡ 512 }
     requires low { over + 16 * count ≤ 96 * (at + 1) }
-    requires room { array_vec_len done + count ≤ 6 }
+    requires room { inline_len done + count ≤ 6 }
     requires posed { PosedAll listing.now scope.now count at }
     ensures { (ts : List Ty) (fs : List Fun) (Γ : List Ty) (ps : List ℕ) (Ds : List Ty) (es : Exprs) (j : ℕ) → PosesAll listing.now scope.now (replicate count (length Γ)) at ts fs Γ ps es j → Encodes ts done Ds → AnswersAll ts Ds (exprs_verdict fs es at Γ) es at j (λ As. NotedOverAll ts fs notes.new es at Γ ps over As) notes.old notes.new result }
 {
@@ -204,9 +204,9 @@ fn judge_arms(
     requires long { length notes.old ≡ 512 }
     requires low { over ≤ 96 * at }
     requires few { rule.arms ≤ 2 }
-    requires room { array_vec_len done ≡ arm }
+    requires room { inline_len done ≡ arm }
     requires posed { PosedArms listing.now scope.now rule code arm at }
-    ensures { (ts : List Ty) (fs : List Fun) (Γ : List Ty) (ps : List ℕ) (Ds : List Ty) (A : Ty) (es : Exprs) (w j : ℕ) → PosesArms listing.now scope.now rule code arm at ts fs Γ ps A es j → Encodes ts done Ds → AnswersAll ts Ds (arms_verdict fs es (map (slot_types A) (arms_from rule arm)) w at Γ) es at j (ArmsNoted ts fs notes.new es at (map (slot_types A) (arms_from rule arm)) Γ ps over) notes.old notes.new result }
+    ensures { (ts : List Ty) (fs : List Fun) (Γ : List Ty) (ps : List ℕ) (Ds : List Ty) (A : Ty) (es : Exprs) (w j : ℕ) → PosesArms listing.now scope.now rule.entry code arm at ts fs Γ ps A es j → Encodes ts done Ds → AnswersAll ts Ds (arms_verdict fs es (map (slot_types A) (arms_from rule.entry arm)) w at Γ) es at j (ArmsNoted ts fs notes.new es at (map (slot_types A) (arms_from rule.entry arm)) Γ ps over) notes.old notes.new result }
 {
     if arm >= rule.arms {
         return Ok(Several {

@@ -25,6 +25,13 @@ fn put_words(into: &mut [u32; WORDS], at: usize, words: &[u32; 16])
     }
 }
 
+// How many words a value of the entry's type has.
+fn width_of(entry: Entry) -> usize
+    ensures { result ≡ entry.width }
+{
+    entry.width as usize
+}
+
 // The first sixteen words.
 fn front(words: &[u32; WORDS]) -> [u32; 16]
     ensures { (k : ℕ) → k < 16 → slice_index result k ≡ slice_index words.now k }
@@ -105,8 +112,7 @@ impl Machine {
         let count = self.count;
         put_words(&mut self.words, at, words);
         self.count = collect(pool, entries, t, words, &mut self.cells, count);
-        let entry = entries[t as usize];
-        self.loaded = at + entry.width as usize;
+        self.loaded = at + width_of(entries[t as usize]);
     }
 
     /// Begins the run of a function on the arguments loaded.

@@ -28,13 +28,14 @@ pub fn inside(at: usize, n: usize, len: usize) -> bool
     at <= len && n <= len - at
 }
 
-// Moves n words from one place to another, whether or not the places overlap. Most values are one word: without a branch of their own a merge takes 1.4 times as long.
+// Moves n words from one place to another, whether or not the places overlap; where they are the same place, nothing is copied. Most values are one word: without a
+// branch of their own a merge takes 1.4 times as long.
 pub fn move_words(words: &mut [u32], from: usize, to: usize, n: usize)
     ensures { from + n ≤ length words.old → to + n ≤ length words.old → Copied words.old words.new from to n }
 {
     if n == 1 {
         set_word(words, to, word(words, from));
-    } else if inside(from, n, words.len()) && inside(to, n, words.len()) {
+    } else if from != to && inside(from, n, words.len()) && inside(to, n, words.len()) {
         words.copy_within(from..from + n, to);
     }
 }

@@ -88,9 +88,9 @@ impl<P: Pool> Programmer<P> {
         ensures keeps { Keeps P.Pool.means (Put shelf type_number bytes.now) (Plainly result) self.old self.new }
         ensures still { Still P.Pool.means result self.old self.new }
     {
+        vacant(&self.shelves.places, shelf)?;
         let spare = self.spare();
         let shelves = &mut self.shelves;
-        vacant(&shelves.places, shelf)?;
         let entries = entries_of(&shelves.table);
         if type_number as usize >= entries.len() {
             return Err(refusal(Refusal::NoSuchTypeOrFunction, 0));

@@ -1,7 +1,7 @@
-use arrayvec::ArrayVec;
+use inline_vec::InlineVec;
 
 /// A run of a function, with the cells that it holds. No call starts one yet.
-#[derive(Drop)]
+#[derive(Clone, Copy)]
 pub struct Run {
-    pub(crate) cells: ArrayVec<u32, 512>,
+    pub(crate) cells: InlineVec<u32, 512>,
 }

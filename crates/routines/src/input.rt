@@ -1,6 +1,6 @@
 //! Inputs that any program can make alike: pseudo-random from a fixed seed.
 
-use arrayvec::ArrayVec;
+use inline_vec::InlineVec;
 
 // no input has more bytes: 512 entries of a mark and two bytes, and five marks
 const ROOM: usize = 2048;
@@ -40,13 +40,13 @@ impl Random {
 /// The bytes of a value; what does not fit is left out.
 #[derive(Drop)]
 pub struct Input {
-    written: ArrayVec<u8, ROOM>,
+    written: InlineVec<u8, ROOM>,
 }
 
 impl Input {
     fn new() -> Input {
         Input {
-            written: ArrayVec::new(),
+            written: InlineVec::new(),
         }
     }
 
@@ -56,7 +56,9 @@ impl Input {
     }
 
     fn push(&mut self, byte: u8) {
-        let _ = self.written.try_push(byte);
+        if self.written.len() < ROOM {
+            self.written.push(byte);
+        }
     }
 
     // a mark and a number of at most fourteen bits, always in two bytes: a form longer than the shortest is read like any other

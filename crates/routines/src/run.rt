@@ -1,6 +1,6 @@
 //! Runs a routine through the machine, in slices and over any pool.
 
-ghost use Rattle.std.specs.Prelude.{◌<◌};
+ghost use Rattle.std.specs.Prelude.{◌≡◌, ◌<◌, min};
 ghost use Rattle.store.specs.Scanning.{Listed};
 
 use crate::input::{Random, checksum};
@@ -59,7 +59,10 @@ impl Times {
     }
 
     /// The less of both, each by itself.
-    pub fn least(self, other: Times) -> Times {
+    pub fn least(self, other: Times) -> Times
+        ensures carried { result.carried ≡ min self.carried other.carried }
+        ensures whole { result.whole ≡ min self.whole other.whole }
+    {
         Times {
             carried: self.carried.min(other.carried),
             whole: self.whole.min(other.whole),

@@ -1,6 +1,6 @@
--- Codes of types: numbers that are equal exactly where the types are.
+-- Codes of types, which are equal exactly where the types are.
 use Rattle.std.specs.Prelude.{◌≡◌, ℕ, ◌<◌, ◌≤◌, List, [], ◌∷◌, map, length, take, slice_index_or}
-use Rattle.arrayvec.specs.ArrayVec.{ArrayVec}
+use Rattle.inline_vec.specs.Vectors.{InlineVec}
 use Rattle.lfpl.specs.Syntax.{Ty, int, diamond, list_of, tree_of, pair_of, sum_of, first, second, width, is_heap_free}
 use Rattle.lfpl.specs.Typing.{type_at}
 use Rattle.tables.specs.Listed.{Below, Types, formed}
@@ -40,7 +40,7 @@ CodedAll ts (c ∷ cs) [] = ⊥
 CodedAll ts (c ∷ cs) (A ∷ As) = Coded ts c A × CodedAll ts cs As
 
 -- the row has the codes of the types As
-abbrev pub Encodes : List Ty → ArrayVec C.Code → List Ty → Type 0
+abbrev pub Encodes : List Ty → InlineVec C.Code → List Ty → Type 0
 Encodes ts r As = CodedAll ts r.items As
 
 -- each of the items is told only the code of its type

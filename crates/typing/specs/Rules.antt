@@ -1,9 +1,9 @@
 -- What the rows of the rules' table say, and that they say what the typing rules say.
 use Rattle.std.specs.Prelude.{◌≡◌, ℕ, ◌<◌, ◌≤◌, Bool, true, ◌&&◌, List, [], ◌∷◌, map, length, take, Some, None, Option, slice_index_or}
-use Rattle.lfpl.specs.Syntax.{Ty, int, Head, Fun}
+use Rattle.lfpl.specs.Syntax.{Ty, int, diamond, same_ty, Head, Fun}
 use Rattle.lfpl.specs.Typing.{type_at, fun_at, rule, fits, same_tys, is_list, is_tree, is_pair, is_sum, early}
 use Rattle.lfpl.specs.Reading.{Names, shape, Signature as TypeOf}
-use Rattle.tables.specs.Listed.{head_of, InRange, Signs}
+use Rattle.tables.specs.Listed.{head_by, head_of, InRange, Signs}
 use Rattle.tables.specs.declared.listing.Listing.{Listing}
 use Rattle.tables.specs.declared.listing.Node.{Node}
 use Rattle.tables.specs.declared.listing.Signature.{Signature}
@@ -17,6 +17,8 @@ use Rattle.typing.specs.declared.rules.Rule.{Rule}
 
 -- the type is made as the form says, by the tests of the typing rules
 abbrev pub made_as : M.Maker → Ty → Bool
+made_as Maker.Number A = same_ty A int
+made_as Maker.Diamond A = same_ty A diamond
 made_as Maker.List A = is_list A
 made_as Maker.Tree A = is_tree A
 made_as Maker.Pair A = is_pair A
@@ -99,8 +101,22 @@ module _ (ts : List Ty) (fs : List Fun) (Γ : List Ty) where
     pub parts : (shape (names_of ts fs).arities h).parts ≡ parts_of fs r.about r.wants.now
     pub binds : (shape (names_of ts fs).arities h).arms ≡ map (λ (s : List S.Slot). length s) (take r.arms (bound r))
 
--- the rule that the table has for an expression says what the typing rule of its head says
+-- what a rule is about at an expression with the number v
+abbrev pub numbered : ℕ → A.About → A.About
+numbered v About.Nothing = About.Nothing
+numbered v (About.Listed w) = About.Listed v
+numbered v (About.Part k) = About.Part k
+numbered v (About.Variable w) = About.Variable v
+numbered v (About.Result w) = About.Result v
+
+-- the rule at an expression with the number v
+abbrev pub at_number : ℕ → Rule → Rule
+at_number v r = record { about = numbered v r.about; form = r.form; early = r.early; wants = r.wants; arms = r.arms; binds = r.binds; whole = r.whole }
+
+-- The rule that the table has for an expression says what the typing rule of its head says; and there is one rule for each kind: with another number in its
+-- place, it says what the typing rule of each head of that kind says.
 pub record Agrees (x : Node) (r : Rule) : Type 0 where
+  pub kind : (ts : List Ty) (fs : List Fun) (Γ As : List Ty) (v : ℕ) → InRange x.kind (names_of ts fs) (length Γ) v → Says ts fs Γ As (head_by x.kind ts v) (at_number v r)
   pub says : (ts : List Ty) (fs : List Fun) (Γ As : List Ty) → InRange x.kind (names_of ts fs) (length Γ) x.number → Says ts fs Γ As (head_of ts x) r
   pub two : r.arms ≤ 2
   pub full : length r.binds ≡ 2

@@ -1,5 +1,5 @@
 ghost use Rattle.std.specs.Prelude.{◌≡◌, ◌+◌, ◌<◌, ◌≤◌, List, [], ◌∷◌, ◌++◌, length, map};
-ghost use Rattle.arrayvec.specs.ArrayVec.{array_vec_len};
+ghost use Rattle.inline_vec.specs.Vectors.{inline_len};
 ghost use Rattle.lfpl.specs.Syntax.{Ty, first, second};
 ghost use Rattle.lfpl.specs.Typing.{alike, same_tys, type_at};
 ghost use Rattle.typing.specs.Codes.{Coded, Describes, Encodes, TellsEach, Typed, slot_type, slot_types};
@@ -7,7 +7,7 @@ ghost use Rattle.lfpl.specs.Reading.{Signature as TypeOf};
 ghost use Rattle.tables.specs.Listed.{Signs};
 ghost use Rattle.typing.specs.Rules.{Short};
 
-use arrayvec::ArrayVec;
+use inline_vec::InlineVec;
 use tables::listing::{Entry, Form, Listing, Signature};
 
 // a type by its code: N and diamond, whether the table lists them or not (an arm may bind a diamond in a table without one), or the number of an entry that is
@@ -31,7 +31,7 @@ pub enum Slot {
 }
 
 // the codes of up to six types
-pub type Row = ArrayVec<Code, 6>;
+pub type Row = InlineVec<Code, 6>;
 
 // what N and diamond are
 const NUMBER_ENTRY: Entry = Entry {
@@ -105,19 +105,19 @@ pub fn slot_code(listing: &Listing, code: Code, slot: Slot) -> Code
 pub fn code_at(row: &Row, i: usize) -> Code
     ensures { (ts As : List Ty) → Encodes ts row.now As → Coded ts result (type_at As i) }
 {
-    row.get(i).copied().unwrap_or(Code::Number)
+    row.as_slice().get(i).copied().unwrap_or(Code::Number)
 }
 
 // Two rows are of the same types.
 pub fn same(a: &Row, b: &Row) -> bool
     ensures { (l : Listing) (ts As Bs : List Ty) → Typed l ts → Encodes ts a.now As → Encodes ts b.now Bs → result ≡ same_tys As Bs }
 {
-    a == b
+    a.as_slice() == b.as_slice()
 }
 
 // The row, which is of at most two types, has none that differs from the first.
 pub fn alike(row: &Row) -> bool
-    ensures { (l : Listing) (ts As : List Ty) → Typed l ts → Encodes ts row.now As → array_vec_len row.now ≤ 2 → result ≡ alike (type_at As 0) As }
+    ensures { (l : Listing) (ts As : List Ty) → Typed l ts → Encodes ts row.now As → inline_len row.now ≤ 2 → result ≡ alike (type_at As 0) As }
 {
     row.len() < 2 || code_at(row, 0) == code_at(row, 1)
 }
@@ -128,7 +128,7 @@ fn codes_of<T: Copy, F: Fn(T) -> Code>(items: &[T], code: F) -> Row
     requires callable { F.IsAlwaysCallable code }
     ensures { (ts : List Ty) (type : T → Ty) → TellsEach ts (F.post code) type items.now → Encodes ts result (map type items.now) }
 {
-    let mut row = ArrayVec::new();
+    let mut row = InlineVec::new();
     for item in items {
         row.push(code(*item));
     }

@@ -25,9 +25,11 @@ pub enum About {
     Result(u32),
 }
 
-// what a type is made as: the forms that rules ask for, whatever the types are that it is made of
+// what a type is made as: its form, whatever the types are that it is made of
 #[derive(Clone, Copy)]
 pub enum Maker {
+    Number,
+    Diamond,
     List,
     Tree,
     Pair,
@@ -38,13 +40,13 @@ pub enum Maker {
 // parameters); how many arms it has and what each binds; and its type where it has no arms (with arms it has theirs). Where `early` is set, the form is tested before the arms
 // are judged.
 #[derive(Clone, Copy)]
-pub struct Rule {
+pub struct Rule<'a> {
     pub about: About,
     pub form: Option<Maker>,
     pub early: bool,
-    pub wants: &'static [Slot],
+    pub wants: &'a [Slot],
     pub arms: usize,
-    pub binds: [&'static [Slot]; 2],
+    pub binds: [&'a [Slot]; 2],
     pub whole: Slot,
 }
 
@@ -66,7 +68,7 @@ const CONS: &[Slot] = &[D, F, W];
 const NODE: &[Slot] = &[D, D, F, W, W];
 
 // An expression without arms.
-fn builds(about: About, form: Option<Maker>, wants: &'static [Slot], whole: Slot) -> Rule
+fn builds(about: About, form: Option<Maker>, wants: &'static [Slot], whole: Slot) -> Rule<'static>
     ensures rule { result ≡ record { about = about; form = form; early = false; wants = wants.entry; arms = 0; binds = result.binds; whole = whole } }
     ensures binds { bound result ≡ [] ∷ [] ∷ [] }
 {
@@ -82,7 +84,7 @@ fn builds(about: About, form: Option<Maker>, wants: &'static [Slot], whole: Slot
 }
 
 // A choice by its first part, whose form is tested before the arms are judged.
-fn chooses(form: Maker, arms: usize, left: &'static [Slot], right: &'static [Slot]) -> Rule
+fn chooses(form: Maker, arms: usize, left: &'static [Slot], right: &'static [Slot]) -> Rule<'static>
     ensures rule { result ≡ record { about = Part 0; form = Some form; early = true; wants = result.wants; arms = arms; binds = left.entry ∷ right.entry ∷ []; whole = Number } }
     ensures wants { result.wants.now ≡ Whole ∷ [] }
 {
@@ -98,7 +100,7 @@ fn chooses(form: Maker, arms: usize, left: &'static [Slot], right: &'static [Slo
 }
 
 // A choice by a number, between two arms that bind nothing.
-const GUARD: Rule = Rule {
+const GUARD: Rule<'static> = Rule {
     about: About::Nothing,
     form: None,
     early: false,
@@ -109,7 +111,7 @@ const GUARD: Rule = Rule {
 };
 
 // The rules: what an expression of each kind asks.
-pub fn rule_of(node: Node) -> Rule
+pub fn rule_of(node: Node) -> Rule<'static>
     ensures { Agrees node result }
 {
     let number = node.number;
@@ -142,7 +144,7 @@ pub fn signature_of(listing: &Listing, number: u32) -> Signature
 
 // How many parts an expression has.
 pub fn parts_of(listing: &Listing, rule: Rule) -> usize
-    ensures { (ts : List Ty) (fs : List Fun) (Γ : List Ty) (n : ℕ) → Basis listing.now ts fs → Known ts fs Γ rule.about n → result ≡ parts_of fs rule.about rule.wants.now }
+    ensures { (ts : List Ty) (fs : List Fun) (Γ : List Ty) (n : ℕ) → Basis listing.now ts fs → Known ts fs Γ rule.entry.about n → result ≡ parts_of fs rule.entry.about rule.entry.wants.now }
 {
     match rule.about {
         About::Result(number) => signature_of(listing, number).arity,
@@ -152,7 +154,7 @@ pub fn parts_of(listing: &Listing, rule: Rule) -> usize
 
 // The code of the type that a rule is about, where its parts have the types of the row.
 pub fn subject(listing: &Listing, rule: Rule, scope: &Scope, parts: &Row) -> Code
-    ensures { (ts : List Ty) (fs : List Fun) (Γ As : List Ty) (ps : List ℕ) → Basis listing.now ts fs → Scopes ts scope.now Γ ps → Encodes ts parts.now As → Known ts fs Γ rule.about (length As) → Coded ts result (subject ts fs Γ As rule.about) }
+    ensures { (ts : List Ty) (fs : List Fun) (Γ As : List Ty) (ps : List ℕ) → Basis listing.now ts fs → Scopes ts scope.now Γ ps → Encodes ts parts.now As → Known ts fs Γ rule.entry.about (length As) → Coded ts result (subject ts fs Γ As rule.entry.about) }
 {
     match rule.about {
         About::Nothing => Code::Number,
@@ -165,7 +167,7 @@ pub fn subject(listing: &Listing, rule: Rule, scope: &Scope, parts: &Row) -> Cod
 
 // The codes of the types that the parts must have, where the rule is about the type with the code.
 fn wants(listing: &Listing, rule: Rule, code: Code) -> Row
-    ensures { (ts : List Ty) (fs : List Fun) (Γ : List Ty) (A : Ty) (n : ℕ) → Basis listing.now ts fs → Known ts fs Γ rule.about n → Short rule.wants.now → Coded ts code A → Encodes ts result (wanted fs rule.about rule.wants.now A) }
+    ensures { (ts : List Ty) (fs : List Fun) (Γ : List Ty) (A : Ty) (n : ℕ) → Basis listing.now ts fs → Known ts fs Γ rule.entry.about n → Short rule.entry.wants.now → Coded ts code A → Encodes ts result (wanted fs rule.entry.about rule.entry.wants.now A) }
 {
     match rule.about {
         About::Result(number) => parameter_codes(listing, signature_of(listing, number)),
@@ -179,6 +181,8 @@ fn has_form(wish: Option<Maker>, form: Form) -> bool
 {
     match wish {
         None => true,
+        Some(Maker::Number) => matches!(form, Form::Number),
+        Some(Maker::Diamond) => matches!(form, Form::Diamond),
         Some(Maker::List) => matches!(form, Form::List(_)),
         Some(Maker::Tree) => matches!(form, Form::Tree(_)),
         Some(Maker::Pair) => matches!(form, Form::Pair(..)),
@@ -188,7 +192,7 @@ fn has_form(wish: Option<Maker>, form: Form) -> bool
 
 // The type that the rule is about has the right form, and the parts have the types that the rule wants.
 pub fn fits(listing: &Listing, rule: Rule, code: Code, parts: &Row) -> bool
-    ensures { (ts : List Ty) (fs : List Fun) (Γ As : List Ty) (A : Ty) (n : ℕ) → Basis listing.now ts fs → Known ts fs Γ rule.about n → Short rule.wants.now → Coded ts code A → Encodes ts parts.now As → result ≡ (asked rule.form A && same_tys As (wanted fs rule.about rule.wants.now A)) }
+    ensures { (ts : List Ty) (fs : List Fun) (Γ As : List Ty) (A : Ty) (n : ℕ) → Basis listing.now ts fs → Known ts fs Γ rule.entry.about n → Short rule.entry.wants.now → Coded ts code A → Encodes ts parts.now As → result ≡ (asked rule.entry.form A && same_tys As (wanted fs rule.entry.about rule.entry.wants.now A)) }
 {
     let entry = entry_of(listing, code);
     let wanted = wants(listing, rule, code);
@@ -197,8 +201,8 @@ pub fn fits(listing: &Listing, rule: Rule, code: Code, parts: &Row) -> bool
 
 // The code of the type of the whole: that of its arms, or else what the rule gives.
 pub fn whole(listing: &Listing, rule: Rule, code: Code, arms: &Row) -> Code
-    ensures built { (ts : List Ty) (A : Ty) → Typed listing.now ts → Coded ts code A → rule.arms ≡ 0 → Coded ts result (slot_type A rule.whole) }
-    ensures chosen { (ts Bs : List Ty) → Encodes ts arms.now Bs → 1 ≤ rule.arms → 1 ≤ length Bs → Coded ts result (type_at Bs 0) }
+    ensures built { (ts : List Ty) (A : Ty) → Typed listing.now ts → Coded ts code A → rule.entry.arms ≡ 0 → Coded ts result (slot_type A rule.entry.whole) }
+    ensures chosen { (ts Bs : List Ty) → Encodes ts arms.now Bs → 1 ≤ rule.entry.arms → 1 ≤ length Bs → Coded ts result (type_at Bs 0) }
 {
     if rule.arms == 0 {
         slot_code(listing, code, rule.whole)

@@ -1,5 +1,5 @@
 ghost use Rattle.std.specs.Prelude.{◌≡◌, ℕ, ◌+◌, ◌^◌, ◌<◌, ◌≤◌, not, ◌&&◌, List, [], ◌∷◌, ◌++◌, ◌==◌, slice_index};
-ghost use Rattle.arrayvec.specs.ArrayVec.{array_vec_len};
+ghost use Rattle.inline_vec.specs.Vectors.{inline_len};
 ghost use Rattle.lfpl.specs.Syntax.{Ty, width};
 ghost use Rattle.lfpl.specs.Typing.{type_at};
 ghost use Rattle.typing.specs.Codes.{Coded, Encodes, Typed};
@@ -7,7 +7,7 @@ ghost use Rattle.typing.specs.Scopes.{offsets, widths};
 ghost use Rattle.typing.specs.Scopes.{Scopes, has};
 
 use crate::codes::{Code, Row, entry_of};
-use arrayvec::ArrayVec;
+use inline_vec::InlineVec;
 use tables::listing::Listing;
 
 // a variable in scope: the code of its type, and where its words begin above those of the body's first parameter
@@ -18,19 +18,19 @@ pub struct Variable {
 }
 
 // The variables in scope at an expression, and a bit for each whose type is not heap-free.
-#[derive(Drop)]
+#[derive(Clone, Copy)]
 pub struct Scope {
-    pub variables: ArrayVec<Variable, 32>,
+    pub variables: InlineVec<Variable, 32>,
     pub heavy: u32,
 }
 
 // No variable.
 pub fn no_variables() -> Scope
     ensures scopes { (ts : List Ty) → Scopes ts result [] [] }
-    ensures count { array_vec_len result.variables ≡ 0 }
+    ensures count { inline_len result.variables ≡ 0 }
 {
     Scope {
-        variables: ArrayVec::new(),
+        variables: InlineVec::new(),
         heavy: 0,
     }
 }
@@ -39,7 +39,7 @@ pub fn no_variables() -> Scope
 pub fn variable_code(scope: &Scope, number: u32) -> Code
     ensures { (ts Γ : List Ty) (ps : List ℕ) → Scopes ts scope.now Γ ps → Coded ts result (type_at Γ number) }
 {
-    match scope.variables.get(number as usize) {
+    match scope.variables.as_slice().get(number as usize) {
         Some(variable) => variable.code,
         None => Code::Number,
     }
@@ -49,22 +49,18 @@ pub fn variable_code(scope: &Scope, number: u32) -> Code
 pub fn variable_place(scope: &Scope, number: u32) -> usize
     ensures { (ts Γ : List Ty) (ps : List ℕ) → Scopes ts scope.now Γ ps → result ≡ slice_index ps number }
 {
-    match scope.variables.get(number as usize) {
+    match scope.variables.as_slice().get(number as usize) {
         Some(variable) => variable.place,
         None => 0,
     }
 }
 
-// The same variables, to which others may be added. By a loop, since a vector's own clone answers a Result, and this cannot fail.
+// The same variables, to which others may be added.
 pub fn copy_of(scope: &Scope) -> Scope
     ensures { result ≡ scope.now }
 {
-    let mut variables = ArrayVec::new();
-    for variable in scope.variables.as_slice() {
-        variables.push(*variable);
-    }
     Scope {
-        variables,
+        variables: scope.variables,
         heavy: scope.heavy,
     }
 }
@@ -89,11 +85,11 @@ pub fn raise(listing: &Listing, over: usize, code: Code) -> usize
 
 // One variable more, whose words lie over so many; over how many then.
 pub fn extend(listing: &Listing, scope: &mut Scope, over: usize, code: Code) -> usize
-    requires room { array_vec_len scope.old.variables < 32 }
+    requires room { inline_len scope.old.variables < 32 }
     requires low { over ≤ 65536 }
     ensures scopes { (ts Γ : List Ty) (A : Ty) (ps : List ℕ) → Typed listing.now ts → Coded ts code A → Scopes ts scope.old Γ ps → Scopes ts scope.new (Γ ++ A ∷ []) (ps ++ over ∷ []) }
     ensures over { (ts : List Ty) (A : Ty) → Typed listing.now ts → Coded ts code A → result ≡ over + width A }
-    ensures count { array_vec_len scope.new.variables ≡ array_vec_len scope.old.variables + 1 }
+    ensures count { inline_len scope.new.variables ≡ inline_len scope.old.variables + 1 }
     ensures low { result ≤ over + 255 }
 {
     let at = scope.variables.len();
@@ -104,7 +100,7 @@ pub fn extend(listing: &Listing, scope: &mut Scope, over: usize, code: Code) -> 
 
 // One variable more for each type of the row, whose words lie over so many; over how many then.
 pub fn extend_all(listing: &Listing, scope: &mut Scope, over: usize, row: &Row) -> usize
-    requires room { array_vec_len scope.old.variables + array_vec_len row.now ≤ 32 }
+    requires room { inline_len scope.old.variables + inline_len row.now ≤ 32 }
     requires low { over ≤ 60000 }
     ensures scopes { (ts Γ As : List Ty) (ps : List ℕ) → Typed listing.now ts → Encodes ts row.now As → Scopes ts scope.old Γ ps → Scopes ts scope.new (Γ ++ As) (ps ++ offsets over As) }
     ensures over { (ts As : List Ty) → Typed listing.now ts → Encodes ts row.now As → result ≡ over + widths As }

@@ -313,7 +313,7 @@ judge_arms-returns-in_err-rest t c ts fs Γ ps Ds B es w j P D =
     let A = c.in_ok-first.ensures ts fs _ _ F.first F.middle (F.posed _ _ I) in
     let p = err_from_is_err_and c.from_residual-in_err-rest.result c.from_residual-in_err-rest.ensures.1 in
     rw (p.1, p.2) (faulted_by
-    (c.in_err-rest.ensures ts fs Γ ps _ B F.rest w j (F.others _ A.ends) (row_more ts c.args.done _ Ds _ A.type c.push.ensures.items D A.code))
+    (c.in_err-rest.ensures ts fs Γ ps _ B F.rest w j (F.others _ A.ends) (row_more ts c.args.done.items _ Ds _ A.type c.push.ensures.items D A.code))
     (λ v i. other_arm_fault fs Γ w c.args.at c.in_ok-first.first.end F.first F.rest es _ _ _ F.is F.binds (A.ends ∙ F.ends) A.type v i A.typed))
 
 pub judge_arms-returns : goal.judge_arms-returns
@@ -323,7 +323,7 @@ judge_arms-returns t c ts fs Γ ps Ds B es w j P D =
     let I = c.extend_all-above.ensures.scopes ts Γ _ ps P.all.basis.typed K (scope_copied c.copy_of-inner.ensures P.all.scope) in
     let above = c.extend_all-above.ensures.over ts _ P.all.basis.typed K in
     let A = c.in_ok-first.ensures ts fs _ _ F.first F.middle (F.posed _ _ I) in
-    let R = c.in_ok-rest.ensures ts fs Γ ps _ B F.rest w j (F.others _ A.ends) (row_more ts c.args.done _ Ds _ A.type c.push.ensures.items D A.code) in
+    let R = c.in_ok-rest.ensures ts fs Γ ps _ B F.rest w j (F.others _ A.ends) (row_more ts c.args.done.items _ Ds _ A.type c.push.ensures.items D A.code) in
     let kept = c.judge_arms.auto.notes in
     rw c.joined.ensures (arms_pass ts fs Γ ps Ds c.args.at F.middle j c.args.over F.first F.rest es c.args.notes.now c.judge.new.notes c.judge_arms.new.notes
     c.in_ok-first.first c.in_ok-rest.rest F.is F.ends (omega arith) w c.extend_all-above.result _ _ _ F.binds above A R)
@@ -386,7 +386,7 @@ judge_parts-returns-in_err-rest t c ts fs Γ ps Ds es j P D =
     let A = c.in_ok-first.ensures ts fs Γ ps F.first F.middle F.posed in
     let p = err_from_is_err_and c.from_residual-in_err-rest.result c.from_residual-in_err-rest.ensures.1 in
     rw (p.1, p.2) (faulted_by
-    (c.in_err-rest.ensures ts fs Γ ps _ F.rest j (F.others _ A.ends) (row_more ts c.args.done _ Ds _ A.type c.push.ensures.items D A.code))
+    (c.in_err-rest.ensures ts fs Γ ps _ F.rest j (F.others _ A.ends) (row_more ts c.args.done.items _ Ds _ A.type c.push.ensures.items D A.code))
     (λ w i. rest_fault fs Γ c.args.at c.in_ok-first.first.end F.first F.rest es F.is (A.ends ∙ F.ends) A.type w i A.typed))
 
 pub judge_parts-returns : goal.judge_parts-returns
@@ -394,7 +394,7 @@ judge_parts-returns t c ts fs Γ ps Ds es j P D =
     let F = first_part _ _ _ _ ts fs Γ ps es j P c.if-count-eq0.false in
     let A = c.in_ok-first.ensures ts fs Γ ps F.first F.middle F.posed in
     let above = c.raise-above.ensures.over ts A.type P.basis.typed A.code in
-    let R = c.in_ok-rest.ensures ts fs Γ ps _ F.rest j (F.others _ A.ends) (row_more ts c.args.done _ Ds _ A.type c.push.ensures.items D A.code) in
+    let R = c.in_ok-rest.ensures ts fs Γ ps _ F.rest j (F.others _ A.ends) (row_more ts c.args.done.items _ Ds _ A.type c.push.ensures.items D A.code) in
     let kept = c.judge_parts.auto.notes in
     rw c.joined.ensures (parts_pass ts fs Γ ps Ds c.args.at F.middle j c.args.over F.first F.rest es c.args.notes.now c.judge.new.notes c.judge_parts.new.notes
     c.in_ok-first.first c.in_ok-rest.rest F.is F.ends (omega arith) c.raise-above.result A above R)

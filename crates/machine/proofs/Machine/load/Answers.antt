@@ -1,4 +1,4 @@
-use Rattle.std.proofs.Common.{◌≡◌, ◌≤◌, subst, arith}
+use Rattle.std.proofs.Common.{◌≡◌, ◌+◌, ◌≤◌, ◌∙◌, ap, subst, arith}
 use Rattle.lfpl.specs.Syntax.{width}
 use Rattle.lfpl.specs.Typing.{type_at}
 use Rattle.lfpl.specs.Values.{charge}
@@ -20,4 +20,4 @@ returns g c ts v xs T s l near few =
     let k : charge v ≤ 512 = omega arith in
     load_more (g.P.Pool.means c.args.pool.now) c.args.self.now xs A v ws c.put_words.new.into c.collect-self.new.cells c.collect-self.result _ l s n near few
     (subst (λ q. Put c.args.self.now.words q ws c.put_words.new.into) at c.put_words.ensures) (c.collect-self.ensures.cells ts T v s k)
-    (read_width es ts t _ _ _ T c.requires.known at)
+    (ap (λ n. c.min-at.result + n) c.width_of.ensures ∙ read_width es ts t _ _ _ T c.requires.known at)
