@@ -11,7 +11,7 @@ use Rattle.lfpl.specs.Judge.{Verdict, fine, faulty, judge, exprs_verdict, arms_v
 use Rattle.lfpl.specs.Reading.{shape}
 use Rattle.lfpl.specs.Syntax.{Ty, width, same_ty, Head, var, Expr, Exprs, expr, end, ◌then◌, size, sizes, Fun}
 use Rattle.lfpl.specs.Typing.{rule, fits, early, alike, type_at, same_tys}
-use Rattle.tables.specs.Listed.{AllStand, head_of}
+use Rattle.tables.specs.Listed.{AllStand, InRange, head_of}
 use Rattle.tables.specs.declared.listing.Listing.{Listing}
 use Rattle.tables.specs.declared.listing.Node.{Node}
 use Rattle.tables.specs.declared.listing.Signature.{Signature}
@@ -19,7 +19,7 @@ use Rattle.typing.specs.Codes.{Typed, Coded, CodedAll, Encodes, slot_type, slot_
 use Rattle.judge.specs.Judging.{listed_nodes, arms_from, counted, Posed, Poses, PosesAll, PosesArms, Passed, PassedAll, Earlier, Faulted, ArmsNoted}
 use Rattle.judge.specs.Over.{NotedOverAt, NotedOver, NotedOverAll, NotedOverArms}
 use Rattle.judge.specs.Notes.{note_at, offsets, widths}
-use Rattle.typing.specs.Rules.{Agrees, Says, Basis, Short, Known, subject, wanted, parts_of, asked, bound, names_of}
+use Rattle.typing.specs.Rules.{Agrees, Says, Basis, Short, AllShort, Known, subject, wanted, parts_of, asked, bound, names_of}
 use Rattle.typing.specs.Scopes.{Scopes, mask, masks, twice, head_mask}
 use Rattle.typing.specs.declared.codes.Code as C
 use Rattle.typing.specs.declared.codes.Code.TheVariants as Code
@@ -86,6 +86,16 @@ map_map : {X Y Z : Type 0} (f : Y → Z) (g : X → Y) (xs : List X) → map f (
 map_map f g [] = refl
 map_map f g (x ∷ xs) = ap (λ (l : List _). f (g x) ∷ l) (map_map f g xs)
 
+-- what is asked of a rule here: what `Agrees` says of the expression itself, and nothing of others of its kind
+pub record AgreesAt (x : Node) (r : Rule) : Type 0 where
+  pub says : (ts : List Ty) (fs : List Fun) (Γ As : List Ty) → InRange x.kind (names_of ts fs) (length Γ) x.number → Says ts fs Γ As (head_of ts x) r
+  pub two : r.arms ≤ 2
+  pub full : length r.binds ≡ 2
+  pub short : AllShort (r.wants.now ∷ bound r)
+
+pub at_itself : (x : Node) (r : Rule) → Agrees x r → AgreesAt x r
+at_itself x r a = record { says = a.says; two = a.two; full = a.full; short = a.short }
+
 module _ (l : Listing) (s : Scope) (n : ℕ) (ts : List Ty) (fs : List Fun) (Γ : List Ty) (ps : List ℕ) (e : Expr) (j : ℕ) (P : Poses l s n ts fs Γ ps e j)
     (x : Node) (N : AtNode ts fs (listed_nodes l) x (length Γ) n e j) where
   pub inside : (n < l.expressions) × (n < 512)
@@ -107,7 +117,7 @@ module _ (l : Listing) (s : Scope) (n : ℕ) (ts : List Ty) (fs : List Fun) (Γ 
       let m = length-take l.expressions l.nodes in
       (omega arith, omega arith)
 
-  module _ (r : Rule) (ag : Agrees x r) where
+  module _ (r : Rule) (ag : AgreesAt x r) where
     says : (As : List Ty) → Says ts fs Γ As (head_of ts x) r
     says As = ag.says ts fs Γ As N.range
 

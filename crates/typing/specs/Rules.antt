@@ -29,6 +29,16 @@ abbrev pub asked : Option M.Maker → Ty → Bool
 asked None A = true
 asked (Some m) A = made_as m A
 
+-- no form is asked for, or that of a type that is made of types; what is to be N or a diamond is asked for by a slot
+abbrev pub Composite : Option M.Maker → Type 0
+Composite None = Unit {0}
+Composite (Some Maker.Number) = ⊥
+Composite (Some Maker.Diamond) = ⊥
+Composite (Some Maker.List) = Unit {0}
+Composite (Some Maker.Tree) = Unit {0}
+Composite (Some Maker.Pair) = Unit {0}
+Composite (Some Maker.Sum) = Unit {0}
+
 -- what expressions may name, where the entries list the types ts and the functions are fs
 abbrev pub names_of : List Ty → List Fun → Names
 names_of ts fs = record { types = ts; arities = map (λ f. length f.params) fs }

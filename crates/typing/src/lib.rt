@@ -5,3 +5,5 @@
 pub mod codes;
 pub mod rules;
 pub mod scope;
+#[cfg(test)]
+mod tests;

@@ -3,7 +3,7 @@ ghost use Rattle.lfpl.specs.Syntax.{Fun, Ty};
 ghost use Rattle.lfpl.specs.Typing.{fun_at, same_tys, type_at};
 ghost use Rattle.tables.specs.Listed.{Signs, formed};
 ghost use Rattle.typing.specs.Codes.{Coded, Encodes, Typed, slot_type};
-ghost use Rattle.typing.specs.Rules.{Agrees, Basis, Known, Short, asked, bound, parts_of, subject, type_of, wanted};
+ghost use Rattle.typing.specs.Rules.{Agrees, Basis, Composite, Known, Short, asked, bound, parts_of, subject, type_of, wanted};
 ghost use Rattle.typing.specs.Scopes.{Scopes};
 ghost use Rattle.typing.specs.declared.codes.Slot.TheVariants.{Number, Whole};
 ghost use Rattle.typing.specs.declared.rules.About.TheVariants.{Part};
@@ -112,7 +112,8 @@ const GUARD: Rule<'static> = Rule {
 
 // The rules: what an expression of each kind asks.
 pub fn rule_of(node: Node) -> Rule<'static>
-    ensures { Agrees node result }
+    ensures agrees { Agrees node result }
+    ensures composite { Composite result.form }
 {
     let number = node.number;
     match node.kind {

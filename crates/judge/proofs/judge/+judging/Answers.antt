@@ -13,7 +13,7 @@ use Rattle.typing.specs.declared.codes.Slot as S
 use Rattle.typing.specs.declared.scope.Scope.{Scope}
 use Rattle.typing.proofs.Coding.{coded_length}
 use Rattle.typing.proofs.Masks.{shares_mask}
-use Rattle.judge.proofs.Passing.{code_narrow, row_narrow, no_row, row_more, inside, middle_is, end_is, posed_inside, first_part, first_arm, scope_copied, known_parts, parts_few, parts_posed, known_subject, fit_is, early_unfit, arms_agree, goes_on, arms_posed, arms_many, whole_coded, passes, settled_is, shared_test, faulted_by, none_pass, no_arms_noted, parts_pass, arms_pass}
+use Rattle.judge.proofs.Passing.{code_narrow, row_narrow, no_row, row_more, inside, middle_is, end_is, posed_inside, at_itself, first_part, first_arm, scope_copied, known_parts, parts_few, parts_posed, known_subject, fit_is, early_unfit, arms_agree, goes_on, arms_posed, arms_many, whole_coded, passes, settled_is, shared_test, faulted_by, none_pass, no_arms_noted, parts_pass, arms_pass}
 use Rattle.typing.proofs.Scoping.{scope_length}
 use Rattle.judge.proofs.Standing.{no_node, at_node, at_none, parts_none, arms_none}
 use Rattle.judge.proofs.Verdicts.{parts_fault, early_fault, arms_fault, types_fault, sharing_fault, judged, first_fault, rest_fault, first_arm_fault, other_arm_fault, no_arms_judged}
@@ -44,7 +44,7 @@ judge-judge_parts-requires t c =
     let j = q.j in
     let P = q.is in
     let N = at_node c.args.listing.now ts fs no_node P.stands in
-    let ag = c.rule_of-rule.ensures in
+    let ag = at_itself _ _ c.rule_of-rule.ensures.agrees in
     let is = c.parts_of-count.ensures ts fs Γ _ P.basis (known_parts _ _ _ ts fs Γ ps e j P _ N _ ag) in
     let i = inside _ _ _ ts fs Γ ps e j P _ N in
     let f = parts_few _ _ _ ts fs Γ ps e j P _ N _ ag _ is in
@@ -66,7 +66,7 @@ judge-judge_parts-requires t c =
 pub judge-returns-in_err-parts : goal.judge-returns-in_err-parts
 judge-returns-in_err-parts t c ts fs Γ ps e j P =
     let N = at_node c.args.listing.now ts fs no_node P.stands in
-    let ag = c.rule_of-rule.ensures in
+    let ag = at_itself _ _ c.rule_of-rule.ensures.agrees in
     let is = c.parts_of-count.ensures ts fs Γ _ P.basis (known_parts _ _ _ ts fs Γ ps e j P _ N _ ag) in
     let p = err_from_is_err_and c.from_residual.result c.from_residual.ensures.1 in
     rw (p.1, p.2) (faulted_by
@@ -76,7 +76,7 @@ judge-returns-in_err-parts t c ts fs Γ ps e j P =
 pub judge-returns-then-unfit_choice : goal.judge-returns-then-unfit_choice
 judge-returns-then-unfit_choice t c ts fs Γ ps e j P =
     let N = at_node c.args.listing.now ts fs no_node P.stands in
-    let ag = c.rule_of-rule.ensures in
+    let ag = at_itself _ _ c.rule_of-rule.ensures.agrees in
     let is = c.parts_of-count.ensures ts fs Γ _ P.basis (known_parts _ _ _ ts fs Γ ps e j P _ N _ ag) in
     let Q = c.in_ok-parts.ensures ts fs Γ ps [] N.parts N.middle (parts_posed _ _ _ ts fs Γ ps e j P _ N _ ag _ is) (no_row ts _ c.new.ensures) in
     let k = known_subject _ _ _ ts fs Γ ps e j P _ N _ ag _ is Q.types Q.many in
@@ -98,7 +98,7 @@ judge-judge_arms-requires t c =
     let j = q.j in
     let P = q.is in
     let N = at_node c.args.listing.now ts fs no_node P.stands in
-    let ag = c.rule_of-rule.ensures in
+    let ag = at_itself _ _ c.rule_of-rule.ensures.agrees in
     let is = c.parts_of-count.ensures ts fs Γ _ P.basis (known_parts _ _ _ ts fs Γ ps e j P _ N _ ag) in
     let Q = c.in_ok-parts.ensures ts fs Γ ps [] N.parts N.middle (parts_posed _ _ _ ts fs Γ ps e j P _ N _ ag _ is) (no_row ts _ c.new.ensures) in
     let k = known_subject _ _ _ ts fs Γ ps e j P _ N _ ag _ is Q.types Q.many in
@@ -130,7 +130,7 @@ judge-judge_arms-requires t c =
 pub judge-returns-in_err-arms : goal.judge-returns-in_err-arms
 judge-returns-in_err-arms t c ts fs Γ ps e j P =
     let N = at_node c.args.listing.now ts fs no_node P.stands in
-    let ag = c.rule_of-rule.ensures in
+    let ag = at_itself _ _ c.rule_of-rule.ensures.agrees in
     let is = c.parts_of-count.ensures ts fs Γ _ P.basis (known_parts _ _ _ ts fs Γ ps e j P _ N _ ag) in
     let Q = c.in_ok-parts.ensures ts fs Γ ps [] N.parts N.middle (parts_posed _ _ _ ts fs Γ ps e j P _ N _ ag _ is) (no_row ts _ c.new.ensures) in
     let k = known_subject _ _ _ ts fs Γ ps e j P _ N _ ag _ is Q.types Q.many in
@@ -147,7 +147,7 @@ judge-returns-in_err-arms t c ts fs Γ ps e j P =
 pub judge-returns-then-not-settled : goal.judge-returns-then-not-settled
 judge-returns-then-not-settled t c ts fs Γ ps e j P =
     let N = at_node c.args.listing.now ts fs no_node P.stands in
-    let ag = c.rule_of-rule.ensures in
+    let ag = at_itself _ _ c.rule_of-rule.ensures.agrees in
     let is = c.parts_of-count.ensures ts fs Γ _ P.basis (known_parts _ _ _ ts fs Γ ps e j P _ N _ ag) in
     let Q = c.in_ok-parts.ensures ts fs Γ ps [] N.parts N.middle (parts_posed _ _ _ ts fs Γ ps e j P _ N _ ag _ is) (no_row ts _ c.new.ensures) in
     let k = known_subject _ _ _ ts fs Γ ps e j P _ N _ ag _ is Q.types Q.many in
@@ -168,7 +168,7 @@ judge-returns-then-not-settled t c ts fs Γ ps e j P =
 pub judge-returns-then-shared : goal.judge-returns-then-shared
 judge-returns-then-shared t c ts fs Γ ps e j P =
     let N = at_node c.args.listing.now ts fs no_node P.stands in
-    let ag = c.rule_of-rule.ensures in
+    let ag = at_itself _ _ c.rule_of-rule.ensures.agrees in
     let is = c.parts_of-count.ensures ts fs Γ _ P.basis (known_parts _ _ _ ts fs Γ ps e j P _ N _ ag) in
     let Q = c.in_ok-parts.ensures ts fs Γ ps [] N.parts N.middle (parts_posed _ _ _ ts fs Γ ps e j P _ N _ ag _ is) (no_row ts _ c.new.ensures) in
     let k = known_subject _ _ _ ts fs Γ ps e j P _ N _ ag _ is Q.types Q.many in
@@ -204,7 +204,7 @@ judge-bounds-notes-at t c =
 pub judge-returns : goal.judge-returns
 judge-returns t c ts fs Γ ps e j P =
     let N = at_node c.args.listing.now ts fs no_node P.stands in
-    let ag = c.rule_of-rule.ensures in
+    let ag = at_itself _ _ c.rule_of-rule.ensures.agrees in
     let is = c.parts_of-count.ensures ts fs Γ _ P.basis (known_parts _ _ _ ts fs Γ ps e j P _ N _ ag) in
     let Q = c.in_ok-parts.ensures ts fs Γ ps [] N.parts N.middle (parts_posed _ _ _ ts fs Γ ps e j P _ N _ ag _ is) (no_row ts _ c.new.ensures) in
     let k = known_subject _ _ _ ts fs Γ ps e j P _ N _ ag _ is Q.types Q.many in
