@@ -93,6 +93,7 @@ pub record AgreesAt (x : Node) (r : Rule) : Type 0 where
   pub full : length r.binds ≡ 2
   pub short : AllShort (r.wants.now ∷ bound r)
 
+-- the rules of the table give that
 pub at_itself : (x : Node) (r : Rule) → Agrees x r → AgreesAt x r
 at_itself x r a = record { says = a.says; two = a.two; full = a.full; short = a.short }
 

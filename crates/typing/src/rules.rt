@@ -110,7 +110,7 @@ const GUARD: Rule<'static> = Rule {
     whole: N,
 };
 
-// The rules: what an expression of each kind asks.
+// The rules: what an expression of each kind asks. None asks for the form of N or of a diamond: a slot says where one of these must be.
 pub fn rule_of(node: Node) -> Rule<'static>
     ensures agrees { Agrees node result }
     ensures composite { Composite result.form }

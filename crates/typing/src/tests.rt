@@ -1,7 +1,7 @@
 use crate::rules::{Maker, rule_of};
 use tables::listing::{Kind, Node};
 
-// The form that the rule of the kind asks for, by its letter. N and diamond are no rule's, so that no letter is needed for them.
+// The form that the rule of the kind asks for, by a letter. N and diamond need none: that no rule asks for them is what proves the last line unreachable.
 fn letter(kind: Kind) -> u8 {
     match rule_of(Node { kind, number: 0 }).form {
         None => b'-',
@@ -13,17 +13,17 @@ fn letter(kind: Kind) -> u8 {
     }
 }
 
-// What is made and what is taken apart is of a form; a guard, a sum of numbers and a name are of none.
+// What is made and what is taken apart has a form; names, numbers, arithmetic and guards ask for none.
 #[test]
 fn rules_ask_for_the_form_of_what_is_made(rt: HostRuntime) {
-    let named = [
+    let formless = [
         Kind::Variable,
         Kind::Call,
         Kind::Constant,
         Kind::Infix,
         Kind::Guard,
     ];
-    assert_eq!(rt; named.map(letter), *b"-----");
+    assert_eq!(rt; formless.map(letter), *b"-----");
     let pairs_and_sums = [
         Kind::MakePair,
         Kind::SplitPair,
